@@ -1,0 +1,51 @@
+-- A number read byte by byte from a place of a run is the number of the part there. Stated once over the count of bytes. Assumes nothing.
+use mathlib.Core.Path.{_≡_, refl, sym, ap, ap₂, _∙_}
+use mathlib.Core.List.{List, [], _∷_}
+use Prim.Native.Nat.{ℕ, zero, suc, _+_, _*_, _≤_, _<_}
+use native.Mathlib.Nat.{add-suc, add-zero}
+use native.Mathlib.Decide.{decLt}
+use native.Mathlib.Omega.{arith}
+use lib.ListN.{length, take, drop, getD, drop-of-length-le, List·getD-eq-default}
+use lib.Seq.{drop-cons}
+use Rattle.octets.specs.Numbers.{leNumber}
+
+-- the k bytes of s from at + j on, with zeros past its end
+abbrev pub bytesFrom : ℕ → ℕ → ℕ → List ℕ → List ℕ
+bytesFrom zero j at s = []
+bytesFrom (suc k) j at s = getD s (at + j) 0 ∷ bytesFrom k (suc j) at s
+
+-- within s these bytes are a part of it
+pub part-from : (k j at : ℕ) (s : List ℕ) → at + j + k ≤ length s → bytesFrom k j at s ≡ take k (drop (at + j) s)
+part-from zero j at s within = refl
+part-from (suc k) j at s within =
+    let here : at + j < length s = omega arith in
+    let rest : bytesFrom k (suc j) at s ≡ take k (drop (at + suc j) s) = part-from k (suc j) at s (omega (arith, add-suc at j)) in
+    ap (λ (l : List ℕ). getD s (at + j) 0 ∷ l) (rest ∙ ap (λ (i : ℕ). take k (drop i s)) (add-suc at j))
+    ∙ ap (take (suc k)) (sym (drop-cons s (at + j) 0 here))
+
+past-end : (k j at : ℕ) (s : List ℕ) → length s ≤ at + j → leNumber (bytesFrom k j at s) ≡ 0
+unfolding leNumber
+past-end zero j at s past = refl
+past-end (suc k) j at s past =
+    ap₂ (λ (b n : ℕ). b + 256 * n) (List·getD-eq-default s 0 past) (past-end k (suc j) at s (omega (arith, add-suc at j)))
+
+-- little-endian, the zeros past the end add nothing
+pub le-from : (k j at : ℕ) (s : List ℕ) → leNumber (bytesFrom k j at s) ≡ leNumber (take k (drop (at + j) s))
+unfolding leNumber
+le-from zero j at s = refl
+le-from (suc k) j at s = go (decLt (at + j) (length s)) (le-from k (suc j) at s)
+  where
+    go : Dec (at + j < length s) → leNumber (bytesFrom k (suc j) at s) ≡ leNumber (take k (drop (at + suc j) s)) → leNumber (bytesFrom (suc k) j at s) ≡ leNumber (take (suc k) (drop (at + j) s))
+    go (yes here) rest =
+        ap (λ (n : ℕ). getD s (at + j) 0 + 256 * n) (rest ∙ ap (λ (i : ℕ). leNumber (take k (drop i s))) (add-suc at j))
+        ∙ ap (λ (l : List ℕ). leNumber (take (suc k) l)) (sym (drop-cons s (at + j) 0 here))
+    go (no there) rest =
+        let past : length s ≤ at + j = omega arith in
+        past-end (suc k) j at s past
+        ∙ ap (λ (l : List ℕ). leNumber (take (suc k) l)) (sym (drop-of-length-le s past))
+
+-- the eight bytes from a place on
+pub le64-at : (at : ℕ) (s : List ℕ)
+    → leNumber (getD s at 0 ∷ getD s (at + 1) 0 ∷ getD s (at + 2) 0 ∷ getD s (at + 3) 0 ∷ getD s (at + 4) 0 ∷ getD s (at + 5) 0 ∷ getD s (at + 6) 0 ∷ getD s (at + 7) 0 ∷ [])
+    ≡ leNumber (take 8 (drop at s))
+le64-at at s = rw add-zero at (le-from 8 0 at s)

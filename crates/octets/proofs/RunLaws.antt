@@ -1,0 +1,96 @@
+-- Laws of runs: `sameRun` is equality, and what `written` leaves and reads back. Assumes nothing.
+use mathlib.Core.Path.{_≡_, refl, sym, ap, ap₂, _∙_}
+use mathlib.Core.Bool.{Bool, true, false, _&&_, cond}
+use mathlib.Core.List.{List, [], _∷_, _++_, append-assoc}
+use Prim.Native.Nat.{ℕ, zero, suc, _+_, _-_, _≤_, _<_}
+use native.Mathlib.Decide.{decLt}
+use native.Mathlib.Numerals.{add-one}
+use native.Mathlib.Omega.{arith}
+use borrow.Author.Tests.{eqb-true, eq-eqb, ne-eqb, le-leb, lt-leb}
+use lib.Dec.{eqb, leb}
+use lib.ListN.{length, take, drop, getD, drop-of-length-le}
+use lib.Seq.{drop-cons, drop-at, take-at, take-length, length-take-le, paste, length-paste, drop-paste}
+use Rattle.octets.specs.Runs.{sameRun, fits, written}
+
+pub same-refl : (xs : List ℕ) → sameRun xs xs ≡ true
+unfolding sameRun
+same-refl [] = refl
+same-refl (x ∷ xs) = rw (eq-eqb x x refl, same-refl xs)
+
+pub same-true : (xs ys : List ℕ) → sameRun xs ys ≡ true → xs ≡ ys
+unfolding sameRun
+same-true [] [] h = refl
+same-true [] (y ∷ ys) h = let z : _≡_ {A = Bool} true false = sym h in cc
+same-true (x ∷ xs) [] h = let z : _≡_ {A = Bool} true false = sym h in cc
+same-true (x ∷ xs) (y ∷ ys) h = go (eqb x y) refl (same-true xs ys) h
+  where
+    go : (t : Bool) → eqb x y ≡ t → (sameRun xs ys ≡ true → xs ≡ ys) → (t && sameRun xs ys) ≡ true → x ∷ xs ≡ y ∷ ys
+    go true e rest k = ap₂ (λ (z : ℕ) (zs : List ℕ). z ∷ zs) (eqb-true x y e) (rest k)
+    go false e rest k = let z : _≡_ {A = Bool} true false = sym k in cc
+
+-- runs of other lengths differ
+pub same-lengths : (xs ys : List ℕ) → (length xs ≡ length ys → ⊥) → false ≡ sameRun xs ys
+same-lengths xs ys other = go (sameRun xs ys) refl
+  where
+    go : (t : Bool) → sameRun xs ys ≡ t → false ≡ t
+    go false e = refl
+    go true e = absurd (other (ap length (same-true xs ys e)))
+
+-- two runs of one length, compared up to i: the rest from there says what the whole says
+module _ (xs ys : List ℕ) (long : length xs ≡ length ys) (i : ℕ) (inv : sameRun xs ys ≡ sameRun (drop i xs) (drop i ys)) where
+  from : i < length xs → sameRun xs ys ≡ (eqb (getD xs i 0) (getD ys i 0) && sameRun (drop (i + 1) xs) (drop (i + 1) ys))
+  unfolding sameRun
+  from here =
+      let there : i < length ys = omega arith in
+      inv ∙ rw (drop-cons xs i 0 here, drop-cons ys i 0 there, add-one) refl
+
+  pub same-stop : i < length xs → (getD xs i 0 ≡ getD ys i 0 → ⊥) → false ≡ sameRun xs ys
+  same-stop here other = sym (from here ∙ rw (ne-eqb (getD xs i 0) (getD ys i 0) other))
+
+  pub same-on : i < length xs → getD xs i 0 ≡ getD ys i 0 → sameRun xs ys ≡ sameRun (drop (i + 1) xs) (drop (i + 1) ys)
+  same-on here equal = from here ∙ rw (eq-eqb (getD xs i 0) (getD ys i 0) equal)
+
+  pub same-end : length xs ≤ i → true ≡ sameRun xs ys
+  unfolding sameRun
+  same-end past =
+      let past′ : length ys ≤ i = omega arith in
+      sym (inv ∙ rw (drop-of-length-le xs past, drop-of-length-le ys past′))
+
+module _ (buffer : List ℕ) (at : ℕ) (run : List ℕ) where
+  -- a run that does not fit leaves the buffer as it was
+  pub written-not : length buffer < at + length run → (false ≡ fits buffer at run) × (buffer ≡ written buffer at run)
+  unfolding fits written
+  written-not past = let no : leb (at + length run) (length buffer) ≡ false = lt-leb _ _ past in (sym no, rw no)
+
+  module _ (within : at + length run ≤ length buffer) where
+    -- a run that fits is pasted whole
+    pub written-whole : (true ≡ fits buffer at run) × (paste buffer at run (length run) ≡ written buffer at run)
+    unfolding fits written
+    written-whole =
+        let yes′ : leb (at + length run) (length buffer) ≡ true = le-leb _ _ within in
+        (sym yes′, rw (yes′, take-length run))
+
+    whole : written buffer at run ≡ take at buffer ++ (run ++ drop (at + length run) buffer)
+    unfolding fits written
+    whole = rw (le-leb (at + length run) (length buffer) within) (append-assoc (take at buffer) run (drop (at + length run) buffer))
+
+    front : length (take at buffer) ≡ at
+    front = length-take-le at buffer (omega arith)
+
+    -- it is read back, and the bytes before it and after it are as they were
+    pub written-back : take (length run) (drop at (written buffer at run)) ≡ run
+    written-back =
+        rw (whole, drop-at (take at buffer) (run ++ drop (at + length run) buffer) at front)
+        (take-at run (drop (at + length run) buffer) (length run) refl)
+
+    pub written-before : take at (written buffer at run) ≡ take at buffer
+    written-before = rw whole (take-at (take at buffer) (run ++ drop (at + length run) buffer) at front)
+
+    pub written-after : drop (at + length run) (written buffer at run) ≡ drop (at + length run) buffer
+    written-after = rw (← written-whole .1) (drop-paste buffer at run (length run) (omega arith) (omega arith))
+
+    long : length (written buffer at run) ≡ length buffer
+    long = rw (← written-whole .1) (length-paste buffer at run (length run) within (omega arith))
+
+  pub length-written : length (written buffer at run) ≡ length buffer
+  length-written = elim (decLt (length buffer) (at + length run)) [ yes past ↦ ap length (sym (written-not past .1)) | no past ↦ long (omega arith) ]

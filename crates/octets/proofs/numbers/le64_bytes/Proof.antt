@@ -1,0 +1,13 @@
+use Rattle.octets.specs.Numbers.{leBytes}
+use mathlib.Core.Path.{refl}
+use borrow.Author.Needs.{needs}
+use Rattle.octets.proofs.numbers.le64_bytes.Statement.{statement}
+use Rattle.octets.proofs.numbers.le64_bytes.Tie as tie
+
+returns : tie.Need-returns
+unfolding leBytes
+returns c = refl
+
+pub le64-bytes-spec : {M : Type 1} → statement M
+le64-bytes-spec =
+    tie.close (tie.spec (λ c. search needs) (λ c. search needs) (λ c. search needs) (λ c. search needs) (λ c. search needs) (λ c. search needs) (λ c. search needs) (λ c. search needs) returns)
