@@ -44,8 +44,8 @@ le-from (suc k) j at s = go (decLt (at + j) (length s)) (le-from k (suc j) at s)
         past-end (suc k) j at s past
         ∙ ap (λ (l : List ℕ). leNumber (take (suc k) l)) (sym (drop-of-length-le s past))
 
--- the eight bytes from a place on
-pub le64-at : (at : ℕ) (s : List ℕ)
-    → leNumber (getD s at 0 ∷ getD s (at + 1) 0 ∷ getD s (at + 2) 0 ∷ getD s (at + 3) 0 ∷ getD s (at + 4) 0 ∷ getD s (at + 5) 0 ∷ getD s (at + 6) 0 ∷ getD s (at + 7) 0 ∷ [])
-    ≡ leNumber (take 8 (drop at s))
-le64-at at s = rw add-zero at (le-from 8 0 at s)
+-- a word of the eight bytes from a place on
+pub le64-at : (at : ℕ) (s : List ℕ) (word : ℕ)
+    → word ≡ leNumber (getD s at 0 ∷ getD s (at + 1) 0 ∷ getD s (at + 2) 0 ∷ getD s (at + 3) 0 ∷ getD s (at + 4) 0 ∷ getD s (at + 5) 0 ∷ getD s (at + 6) 0 ∷ getD s (at + 7) 0 ∷ [])
+    → word ≡ leNumber (take 8 (drop at s))
+le64-at at s word read = read ∙ rw add-zero at (le-from 8 0 at s)

@@ -1,0 +1,3 @@
+pub mod RotateLaws
+pub mod WordLaws
+pub mod Vectors
