@@ -1,3 +1,4 @@
+pub mod Cases
 pub mod NumberLaws
 pub mod ReadLaws
 pub mod RunLaws

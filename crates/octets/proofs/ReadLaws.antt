@@ -7,7 +7,7 @@ use native.Mathlib.Decide.{decLt}
 use native.Mathlib.Omega.{arith}
 use lib.ListN.{length, take, drop, getD, drop-of-length-le, List·getD-eq-default}
 use lib.Seq.{drop-cons}
-use Rattle.octets.specs.Numbers.{leNumber}
+use Rattle.octets.specs.Numbers.{leNumber, beNumber, be16At, be32At, be64At}
 
 -- the k bytes of s from at + j on, with zeros past its end
 abbrev pub bytesFrom : ℕ → ℕ → ℕ → List ℕ → List ℕ
@@ -49,3 +49,18 @@ pub le64-at : (at : ℕ) (s : List ℕ) (word : ℕ)
     → word ≡ leNumber (getD s at 0 ∷ getD s (at + 1) 0 ∷ getD s (at + 2) 0 ∷ getD s (at + 3) 0 ∷ getD s (at + 4) 0 ∷ getD s (at + 5) 0 ∷ getD s (at + 6) 0 ∷ getD s (at + 7) 0 ∷ [])
     → word ≡ leNumber (take 8 (drop at s))
 le64-at at s word read = read ∙ rw add-zero at (le-from 8 0 at s)
+
+-- big-endian, within the run
+be-from : (k at : ℕ) (s : List ℕ) → at + k ≤ length s → beNumber (bytesFrom k 0 at s) ≡ beNumber (take k (drop at s))
+be-from k at s within =
+    let here : at + 0 ≡ at = add-zero at in
+    ap beNumber (part-from k 0 at s (omega arith)) ∙ ap (λ (i : ℕ). beNumber (take k (drop i s))) here
+
+pub be16-at : (at : ℕ) (s : List ℕ) → at + 2 ≤ length s → be16At s at ≡ beNumber (take 2 (drop at s))
+be16-at at s within = rw (add-zero at) at (be-from 2 at s within)
+
+pub be32-at : (at : ℕ) (s : List ℕ) → at + 4 ≤ length s → be32At s at ≡ beNumber (take 4 (drop at s))
+be32-at at s within = rw (add-zero at) at (be-from 4 at s within)
+
+pub be64-at : (at : ℕ) (s : List ℕ) → at + 8 ≤ length s → be64At s at ≡ beNumber (take 8 (drop at s))
+be64-at at s within = rw (add-zero at) at (be-from 8 at s within)

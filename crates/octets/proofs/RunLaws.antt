@@ -1,4 +1,4 @@
--- Laws of runs: `sameRun` is equality, and what `written` leaves and reads back. Assumes nothing.
+-- Laws of runs: `sameRun` is equality, and what `written` leaves and gives back. Assumes nothing.
 use mathlib.Core.Path.{_≡_, refl, sym, ap, ap₂, _∙_}
 use mathlib.Core.Bool.{Bool, true, false, _&&_, cond}
 use mathlib.Core.List.{List, [], _∷_, _++_, append-assoc}
@@ -6,11 +6,13 @@ use Prim.Native.Nat.{ℕ, zero, suc, _+_, _-_, _≤_, _<_}
 use native.Mathlib.Decide.{decLt}
 use native.Mathlib.Numerals.{add-one}
 use native.Mathlib.Omega.{arith}
-use borrow.Author.Tests.{eqb-true, eq-eqb, ne-eqb, le-leb, lt-leb}
+use borrow.Author.Tests.{eqb-true, eq-eqb, ne-eqb, leb-true, le-leb, lt-leb}
 use lib.Dec.{eqb, leb}
-use lib.ListN.{length, take, drop, getD, drop-of-length-le}
-use lib.Seq.{drop-cons, drop-at, take-at, take-length, length-take-le, paste, length-paste, drop-paste}
+use lib.ListN.{length, take, drop, getD, length-append, drop-of-length-le}
+use lib.Seq.{drop-cons, drop-drop, drop-at, take-at, take-length, length-take-le, paste, length-paste, take-paste, drop-paste}
 use Rattle.octets.specs.Runs.{sameRun, fits, written}
+
+-- ---- equality
 
 pub same-refl : (xs : List ℕ) → sameRun xs xs ≡ true
 unfolding sameRun
@@ -28,35 +30,14 @@ same-true (x ∷ xs) (y ∷ ys) h = go (eqb x y) refl (same-true xs ys) h
     go true e rest k = ap₂ (λ (z : ℕ) (zs : List ℕ). z ∷ zs) (eqb-true x y e) (rest k)
     go false e rest k = let z : _≡_ {A = Bool} true false = sym k in cc
 
--- runs of other lengths differ
-pub same-lengths : (xs ys : List ℕ) → (length xs ≡ length ys → ⊥) → false ≡ sameRun xs ys
-same-lengths xs ys other = go (sameRun xs ys) refl
-  where
-    go : (t : Bool) → sameRun xs ys ≡ t → false ≡ t
-    go false e = refl
-    go true e = absurd (other (ap length (same-true xs ys e)))
-
--- two runs of one length, compared up to i: the rest from there says what the whole says
-module _ (xs ys : List ℕ) (long : length xs ≡ length ys) (i : ℕ) (inv : sameRun xs ys ≡ sameRun (drop i xs) (drop i ys)) where
-  from : i < length xs → sameRun xs ys ≡ (eqb (getD xs i 0) (getD ys i 0) && sameRun (drop (i + 1) xs) (drop (i + 1) ys))
-  unfolding sameRun
-  from here =
-      let there : i < length ys = omega arith in
-      inv ∙ rw (drop-cons xs i 0 here, drop-cons ys i 0 there, add-one) refl
-
-  pub same-stop : i < length xs → (getD xs i 0 ≡ getD ys i 0 → ⊥) → false ≡ sameRun xs ys
-  same-stop here other = sym (from here ∙ rw (ne-eqb (getD xs i 0) (getD ys i 0) other))
-
-  pub same-on : i < length xs → getD xs i 0 ≡ getD ys i 0 → sameRun xs ys ≡ sameRun (drop (i + 1) xs) (drop (i + 1) ys)
-  same-on here equal = from here ∙ rw (eq-eqb (getD xs i 0) (getD ys i 0) equal)
-
-  pub same-end : length xs ≤ i → true ≡ sameRun xs ys
-  unfolding sameRun
-  same-end past =
-      let past′ : length ys ≤ i = omega arith in
-      sym (inv ∙ rw (drop-of-length-le xs past, drop-of-length-le ys past′))
+-- ---- a run written into a buffer
 
 module _ (buffer : List ℕ) (at : ℕ) (run : List ℕ) where
+  -- what `put` answers says that the run lies within the buffer
+  pub fits-within : fits buffer at run ≡ true → at + length run ≤ length buffer
+  unfolding fits
+  fits-within yes′ = leb-true (at + length run) (length buffer) yes′
+
   -- a run that does not fit leaves the buffer as it was
   pub written-not : length buffer < at + length run → (false ≡ fits buffer at run) × (buffer ≡ written buffer at run)
   unfolding fits written
@@ -89,8 +70,62 @@ module _ (buffer : List ℕ) (at : ℕ) (run : List ℕ) where
     pub written-after : drop (at + length run) (written buffer at run) ≡ drop (at + length run) buffer
     written-after = rw (← written-whole .1) (drop-paste buffer at run (length run) (omega arith) (omega arith))
 
+    -- the front of the buffer, up to the run's end
+    pub written-front : take (at + length run) (written buffer at run) ≡ take at buffer ++ run
+    written-front =
+        rw (← written-whole .1) (take-paste buffer at run (length run) (omega arith) (omega arith) ∙ rw (take-length run))
+
     long : length (written buffer at run) ≡ length buffer
     long = rw (← written-whole .1) (length-paste buffer at run (length run) within (omega arith))
 
   pub length-written : length (written buffer at run) ≡ length buffer
   length-written = elim (decLt (length buffer) (at + length run)) [ yes past ↦ ap length (sym (written-not past .1)) | no past ↦ long (omega arith) ]
+
+-- two runs written one after the other are one run written
+pub written-next : (buffer : List ℕ) (at : ℕ) (x y : List ℕ) → at + length x + length y ≤ length buffer
+    → written (written buffer at x) (at + length x) y ≡ written buffer at (x ++ y)
+written-next buffer at x y within =
+    let w = written buffer at x in
+    let n = at + length x in
+    let inside : n ≤ length buffer = omega arith in
+    let room : n + length y ≤ length w = omega (arith, length-written buffer at x) in
+    let both : at + length (x ++ y) ≤ length buffer = omega (arith, length-append x y) in
+    let end : at + length (x ++ y) ≡ n + length y = omega (arith, length-append x y) in
+    let rest : drop (n + length y) w ≡ drop (n + length y) buffer =
+    sym (drop-drop (length y) n w) ∙ ap (drop (length y)) (written-after buffer at x inside) ∙ drop-drop (length y) n buffer in
+    whole w n y room
+    ∙ ap₂ (λ (p q : List ℕ). p ++ (y ++ q)) (written-front buffer at x inside) rest
+    ∙ append-assoc (take at buffer) x (y ++ drop (n + length y) buffer)
+    ∙ ap (λ (q : List ℕ). take at buffer ++ q) (sym (append-assoc x y (drop (n + length y) buffer)))
+    ∙ ap (λ (k : ℕ). take at buffer ++ ((x ++ y) ++ drop k buffer)) (sym end)
+    ∙ sym (whole buffer at (x ++ y) both)
+
+-- ---- the loop of `same`
+
+-- runs of other lengths differ
+pub same-lengths : (xs ys : List ℕ) → (length xs ≡ length ys → ⊥) → false ≡ sameRun xs ys
+same-lengths xs ys other = go (sameRun xs ys) refl
+  where
+    go : (t : Bool) → sameRun xs ys ≡ t → false ≡ t
+    go false e = refl
+    go true e = absurd (other (ap length (same-true xs ys e)))
+
+-- two runs of one length, compared up to i: the rest from there says what the whole says
+module _ (xs ys : List ℕ) (long : length xs ≡ length ys) (i : ℕ) (inv : sameRun xs ys ≡ sameRun (drop i xs) (drop i ys)) where
+  from : i < length xs → sameRun xs ys ≡ (eqb (getD xs i 0) (getD ys i 0) && sameRun (drop (i + 1) xs) (drop (i + 1) ys))
+  unfolding sameRun
+  from here =
+      let there : i < length ys = omega arith in
+      inv ∙ rw (drop-cons xs i 0 here, drop-cons ys i 0 there, add-one) refl
+
+  pub same-stop : i < length xs → (getD xs i 0 ≡ getD ys i 0 → ⊥) → false ≡ sameRun xs ys
+  same-stop here other = sym (from here ∙ rw (ne-eqb (getD xs i 0) (getD ys i 0) other))
+
+  pub same-on : i < length xs → getD xs i 0 ≡ getD ys i 0 → sameRun xs ys ≡ sameRun (drop (i + 1) xs) (drop (i + 1) ys)
+  same-on here equal = from here ∙ rw (eq-eqb (getD xs i 0) (getD ys i 0) equal)
+
+  pub same-end : length xs ≤ i → true ≡ sameRun xs ys
+  unfolding sameRun
+  same-end past =
+      let past′ : length ys ≤ i = omega arith in
+      sym (inv ∙ rw (drop-of-length-le xs past, drop-of-length-le ys past′))

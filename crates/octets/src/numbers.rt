@@ -1,5 +1,5 @@
-// Bytes as numbers. A number is read from its bytes one by one, so that nothing is required of a slice: the caller's own index
-// is in range. LLVM makes one load of the eight reads of a little-endian sum, and a load and a swap of a big-endian Horner sum.
+// Bytes as numbers. A number is read from its bytes, handed over one by one, so that nothing is required of a slice and nothing is
+// tested twice: the caller's own index is in range. LLVM makes one load of the reads, with a byte swap for a big-endian number.
 ghost use mathlib.Core.Path.{_≡_};
 ghost use mathlib.Core.List.{[], _∷_};
 ghost use Rattle.octets.specs.Numbers.{leNumber, leBytes, beNumber, beBytes};
@@ -59,8 +59,9 @@ pub fn be32(b0: u8, b1: u8, b2: u8, b3: u8) -> u32
 pub fn be64(b0: u8, b1: u8, b2: u8, b3: u8, b4: u8, b5: u8, b6: u8, b7: u8) -> u64
     ensures { λ r. ⌜ r ≡ beNumber (b0 ∷ b1 ∷ b2 ∷ b3 ∷ b4 ∷ b5 ∷ b6 ∷ b7 ∷ []) ⌝ }
 {
-    let high = ((b0 as u64 * 256 + b1 as u64) * 256 + b2 as u64) * 256 + b3 as u64;
-    (((high * 256 + b4 as u64) * 256 + b5 as u64) * 256 + b6 as u64) * 256 + b7 as u64
+    let high = be32(b0, b1, b2, b3);
+    let low = be32(b4, b5, b6, b7);
+    high as u64 * 0x100000000 + low as u64
 }
 
 // The four bytes of a number, the highest first.

@@ -10,7 +10,7 @@ pub fn octet(s: &[u8], at: usize) -> u8
     if at < s.len() { s[at] } else { 0 }
 }
 
-// Whether two runs have the same bytes, and as many.
+// Whether two runs have the same bytes, and as many. It stops at the first difference.
 pub fn same(a: &[u8], b: &[u8]) -> bool
     ensures { λ r. ⌜ r ≡ sameRun (now (a .entry)) (now (b .entry)) ⌝ }
 {

@@ -16,7 +16,8 @@ add64 a b = (a + b) % 2 ^ 64
 unfoldable pub rotl64 : ℕ → ℕ → ℕ
 rotl64 x n = x * 2 ^ n % 2 ^ 64 + x / 2 ^ (64 - n)
 
--- SipRound (figure 2.1). A name's letter says how often its word has been renewed: a is the first time, c the third
+-- SipRound (figure 2.1). a0 is v0 after its first change, b0 and c0 after the next two, and so with v2; v1 and v3 are rotated and exclusive-ored in one
+-- change
 unfoldable pub sipRound : State → State
 sipRound s =
     let a0 = add64 (s .v0) (s .v1) in
@@ -36,7 +37,7 @@ unfoldable pub rounds : ℕ → State → State
 rounds zero s = s
 rounds (suc n) s = rounds n (sipRound s)
 
--- initialization (section 2.2): the key's words into the four constants
+-- initialization: the key's words into the four constants
 unfoldable pub initialized : Secret → State
 initialized key =
     record {

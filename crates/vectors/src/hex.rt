@@ -35,7 +35,10 @@ fn glyph(value: u8) -> u8 {
 pub fn decode(text: &[u8], out: &mut [u8]) -> Decoded
     ensures { λ r. ⌜ r .count ≤ length (now (out .exit)) ⌝ }
 {
-    let none = Decoded { ok: false, count: 0 };
+    let none = Decoded {
+        ok: false,
+        count: 0,
+    };
     if octets::same(text, b"-") {
         return Decoded { ok: true, count: 0 };
     }

@@ -90,20 +90,36 @@ fn run_lines(lines: &[u8], first: u64, bytes: &mut [u8]) -> Rest {
         let rest = &lines[at..];
         let n = text::find(rest, b'\n');
         if n == rest.len() {
-            return Rest { start: at, number, more: true };
+            return Rest {
+                start: at,
+                number,
+                more: true,
+            };
         }
         if !run_line(&rest[0..n], number, bytes) {
-            return Rest { start: at, number, more: false };
+            return Rest {
+                start: at,
+                number,
+                more: false,
+            };
         }
         at = at + n + 1;
         number = std::num::wrapping_add_u64(number, 1);
     }
-    Rest { start: at, number, more: true }
+    Rest {
+        start: at,
+        number,
+        more: true,
+    }
 }
 
 // Reads once behind what was kept, answers the lines that are whole by then, and keeps the rest.
 fn read_once(buffer: &mut [u8], kept: usize, number: u64, bytes: &mut [u8]) -> Turn {
-    let done = Turn { kept: 0, number, more: false };
+    let done = Turn {
+        kept: 0,
+        number,
+        more: false,
+    };
     if buffer.len() <= kept {
         say_number(b"long line ", number);
         return done;
@@ -122,7 +138,11 @@ fn read_once(buffer: &mut [u8], kept: usize, number: u64, bytes: &mut [u8]) -> T
     let have = kept + io::count(got, &buffer[kept..]);
     let rest = run_lines(&buffer[0..have], number, bytes);
     let start = rest.start;
-    Turn { kept: text::shift(buffer, start, have), number: rest.number, more: rest.more }
+    Turn {
+        kept: text::shift(buffer, start, have),
+        number: rest.number,
+        more: rest.more,
+    }
 }
 
 // A proved loop has to end, and nothing says that the input does: it counts down from a number that no run uses up.

@@ -1,3 +1,4 @@
+-- `octets::numbers::be32_bytes` meets its contract. The array is the definition written out. Assumes nothing.
 use Rattle.octets.specs.Numbers.{beBytes}
 use native.Mathlib.Nat.{div-one}
 use borrow.Author.Needs.{needs}

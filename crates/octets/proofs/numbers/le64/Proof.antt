@@ -1,3 +1,4 @@
+-- `octets::numbers::le64` meets its contract. A sum of bytes times powers of 256 is the number by arithmetic. Assumes nothing.
 use Rattle.octets.specs.Numbers.{leNumber}
 use native.Mathlib.Omega.{arith}
 use borrow.Author.Needs.{needs}

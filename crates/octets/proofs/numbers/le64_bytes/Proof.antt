@@ -1,3 +1,4 @@
+-- `octets::numbers::le64_bytes` meets its contract. The array is the definition written out. Assumes nothing.
 use Rattle.octets.specs.Numbers.{leBytes}
 use mathlib.Core.Path.{refl}
 use borrow.Author.Needs.{needs}

@@ -1,3 +1,4 @@
+-- `octets::runs::octet` meets its contract. Past the end `getD` gives its default, 0. Assumes nothing.
 use lib.ListN.{List·getD-eq-default}
 use mathlib.Core.Path.{sym}
 use borrow.Author.Needs.{needs}

@@ -1,11 +1,9 @@
-use Prim.Native.Nat.{_≤_, _<_, _+_, _-_}
+-- `vectors::text::find` meets its contract and ends. Assumes nothing.
+use Prim.Native.Nat.{_-_}
 use lib.ListN.{length}
-use mathlib.Core.Path.{_≡_}
 use borrow.Author.Needs.{needs}
 use Rattle.vectors.proofs.text.find.Statement.{statement}
 use Rattle.vectors.proofs.text.find.Tie as tie
-use Rattle.vectors.proofs.text.find.Reads as reads
-use Rattle.vectors.proofs.text.find.Lts as lts
 
 abbrev Inv-loop : tie.InvT-loop
 Inv-loop s byte i₀ i = Unit {0}
@@ -13,44 +11,6 @@ Inv-loop s byte i₀ i = Unit {0}
 abbrev μ-loop : tie.MeasureT-loop
 μ-loop s byte i₀ i = length s - i
 
--- src/text.rt:17:5
-loop-holds : tie.Need-loop-holds Inv-loop μ-loop
-loop-holds c = search needs
-
--- src/text.rt:18:12
-shared-slice-read-if1 : tie.Need-shared-slice-read-if1 Inv-loop μ-loop
-shared-slice-read-if1 c = search needs
-
--- src/text.rt:19:13
-returns : tie.Need-returns Inv-loop μ-loop
-returns c = search needs
-
--- src/text.rt:21:9
-add-i : tie.Need-add-i Inv-loop μ-loop
-add-i c = search needs
-
--- src/text.rt:17:5
-loop-less : tie.Need-loop-less Inv-loop μ-loop
-loop-less c = search needs
-
--- src/text.rt:17:5
-loop-again : tie.Need-loop-again Inv-loop μ-loop
-loop-again c = search needs
-
--- src/text.rt:13:1
-returns-2 : tie.Need-returns-2 Inv-loop μ-loop
-returns-2 c = search needs
-
 pub find-spec : {M : Type 1} → statement M
 find-spec =
-    tie.close
-    (tie.spec
-    Inv-loop
-    μ-loop
-    loop-holds
-    shared-slice-read-if1
-    returns
-    add-i
-    loop-less
-    loop-again
-    returns-2)
+    tie.close (tie.spec Inv-loop μ-loop (λ c. search needs) (λ c. search needs) (λ c. search needs) (λ c. search needs) (λ c. search needs) (λ c. search needs) (λ c. search needs))

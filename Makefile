@@ -1,0 +1,30 @@
+# run, test: the toolchain is enough. differential also needs python3 and OpenSSL 3, bench needs gcc.
+VECTORS = crates/vectors/stdin
+COUNT = 100000
+SEED = 1
+
+.PHONY: run test build differential bench
+
+# Runs the compiled code on vectors, the stored ones or those of a file: make run VECTORS=file
+run: build
+	@target/bin/vectors <$(VECTORS)
+
+# The gate.
+test:
+	@.ci/run
+
+build:
+	@mkdir -p target
+	@rt check vectors >target/build.log 2>&1 || { cat target/build.log; exit 1; }
+
+# The stored output, and COUNT random lines from SEED, against OpenSSL's SipHash.
+differential: build
+	tests/expected.py <crates/vectors/stdin | cmp - crates/vectors/stdout
+	tests/expected.py --random $(COUNT) --seed $(SEED) >target/lines
+	target/bin/vectors <target/lines >target/got
+	tests/expected.py <target/lines | cmp - target/got
+	@echo "$(COUNT) lines from seed $(SEED), $$(grep -c '^bad line' target/got) of them bad: the same output"
+
+# Times against plain C, in turns.
+bench:
+	@bench/run
