@@ -1,7 +1,7 @@
 -- Each answer of `last_word` and of the loop of `siphash24` over plain values. Assumes nothing.
 use mathlib.Core.Path.{_≡_, refl, ap, _∙_}
 use mathlib.Core.List.{List, [], _∷_}
-use Prim.Native.Nat.{ℕ, _+_, _*_, _/_, _%_, _≤_}
+use Prim.Native.Nat.{ℕ, _+_, _*_, _/_, _^_, _≤_}
 use native.Mathlib.Nat.{add-zero}
 use native.Mathlib.Numerals.{add-one}
 use native.Mathlib.Omega.{arith}
@@ -13,13 +13,13 @@ use Rattle.secret.specs.declared.Secret.{Secret}
 use Rattle.siphash.specs.SipHash.{initialized, compressed, wordAt, absorbed, lastWord, finalized, sipHash24}
 use Rattle.siphash.specs.declared.State.{State}
 
--- seven bytes from the last whole word on, with zeros past the end, and the length's lowest byte on top
-pub last-is : (m : List ℕ) (b0 b1 b2 b3 b4 b5 b6 word : ℕ) → (let at = length m / 8 * 8 in
+-- seven bytes from the last whole word on, with zeros past the end, and a byte on top
+pub last-is : (m : List ℕ) (b0 b1 b2 b3 b4 b5 b6 top word : ℕ) → (let at = length m / 8 * 8 in
     b0 ≡ getD m at 0 → b1 ≡ getD m (at + 1) 0 → b2 ≡ getD m (at + 2) 0 → b3 ≡ getD m (at + 3) 0
     → b4 ≡ getD m (at + 4) 0 → b5 ≡ getD m (at + 5) 0 → b6 ≡ getD m (at + 6) 0
-    → word ≡ leNumber (b0 ∷ b1 ∷ b2 ∷ b3 ∷ b4 ∷ b5 ∷ b6 ∷ length m % 256 ∷ []) → word ≡ lastWord m)
-unfolding lastWord leNumber
-last-is m b0 b1 b2 b3 b4 b5 b6 word e0 e1 e2 e3 e4 e5 e6 read =
+    → word ≡ leNumber (b0 ∷ b1 ∷ b2 ∷ b3 ∷ b4 ∷ b5 ∷ b6 ∷ top ∷ []) → word ≡ leNumber (drop at m) + top * 2 ^ 56)
+unfolding leNumber
+last-is m b0 b1 b2 b3 b4 b5 b6 top word e0 e1 e2 e3 e4 e5 e6 read =
     let at = length m / 8 * 8 in
     let short : take 7 (drop at m) ≡ drop at m = take-all 7 (drop at m) (omega (arith, length-drop at m)) in
     let from : leNumber (bytesFrom 7 0 at m) ≡ leNumber (drop at m) = le-from 7 0 at m ∙ ap (λ (i : ℕ). leNumber (take 7 (drop i m))) (add-zero at) ∙ ap leNumber short in
