@@ -2,7 +2,7 @@
 use mathlib.Core.Path.{_≡_, refl, sym, ap, ap₂, _∙_}
 use mathlib.Core.List.{List, [], _∷_}
 use Prim.Native.Nat.{ℕ, zero, suc, _+_, _*_, _/_, _%_, _^_, _<_}
-use native.Mathlib.Nat.{add-comm, mul-comm, mod-one, mod-eq-of-lt, pow-suc, pow-succ', one-le-pow, zero-lt-suc}
+use native.Mathlib.Nat.{mod-one, mod-eq-of-lt, pow-suc, pow-succ', one-le-pow}
 use native.Mathlib.Omega.{arith}
 use lib.Arith.{mod-mul}
 use lib.ListN.{length, getD}

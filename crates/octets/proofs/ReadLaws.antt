@@ -52,9 +52,7 @@ le64-at at s word read = read ∙ rw add-zero at (le-from 8 0 at s)
 
 -- big-endian, within the run
 be-from : (k at : ℕ) (s : List ℕ) → at + k ≤ length s → beNumber (bytesFrom k 0 at s) ≡ beNumber (take k (drop at s))
-be-from k at s within =
-    let here : at + 0 ≡ at = add-zero at in
-    ap beNumber (part-from k 0 at s (omega arith)) ∙ ap (λ (i : ℕ). beNumber (take k (drop i s))) here
+be-from k at s within = ap beNumber (part-from k 0 at s (omega arith)) ∙ ap (λ (i : ℕ). beNumber (take k (drop i s))) (add-zero at)
 
 pub be16-at : (at : ℕ) (s : List ℕ) → at + 2 ≤ length s → be16At s at ≡ beNumber (take 2 (drop at s))
 be16-at at s within = rw (add-zero at) at (be-from 2 at s within)

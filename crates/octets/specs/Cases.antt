@@ -1,9 +1,8 @@
 -- Cases that pin the definitions of Numbers.antt and Runs.antt, bytes and numbers written out. The number is the timestamp of RFC 9018's first vector
 -- (P1 of document 01), the word that of the key in the SipHash paper, appendix A. Assumes nothing.
 use mathlib.Core.Path.{_≡_}
-use mathlib.Core.Bool.{Bool, true, false}
-use mathlib.Core.List.{List, [], _∷_}
-use Prim.Native.Nat.{ℕ}
+use mathlib.Core.Bool.{true, false}
+use mathlib.Core.List.{[], _∷_}
 use Rattle.octets.specs.Numbers.{leNumber, leBytes, beNumber, beBytes, printed, be16At, be32At, be64At}
 use Rattle.octets.specs.Runs.{sameRun, fits, written}
 

@@ -69,9 +69,9 @@ pub fn be32_bytes(x: u32) -> [u8; 4]
     ensures { λ r. ⌜ r ≡ beBytes 4 x ⌝ }
 {
     [
-        (x / 16777216 % 256) as u8,
-        (x / 65536 % 256) as u8,
-        (x / 256 % 256) as u8,
+        (x / 0x1000000 % 256) as u8,
+        (x / 0x10000 % 256) as u8,
+        (x / 0x100 % 256) as u8,
         (x % 256) as u8,
     ]
 }

@@ -1,7 +1,7 @@
 -- Cases that pin the definitions of Secret.antt: the key of the SipHash paper, appendix A, with its two words as the paper prints them, and secrets
 -- that differ in one byte. Assumes nothing.
 use mathlib.Core.Path.{_≡_}
-use mathlib.Core.Bool.{Bool, true, false}
+use mathlib.Core.Bool.{true, false}
 use Rattle.octets.specs.Numbers.{printed}
 use Rattle.secret.specs.Secret.{secretOf, secretBytes, sameSecret}
 use Rattle.secret.specs.declared.Secret.{Secret}

@@ -16,8 +16,8 @@ add64 a b = (a + b) % 2 ^ 64
 unfoldable pub rotl64 : ℕ → ℕ → ℕ
 rotl64 x n = x * 2 ^ n % 2 ^ 64 + x / 2 ^ (64 - n)
 
--- SipRound (figure 2.1). a0 is v0 after its first change, b0 and c0 after the next two, and so with v2; v1 and v3 are rotated and exclusive-ored in one
--- change
+-- SipRound (figure 2.1). A letter counts the changes of a word: a0 is v0 after its first, c0 after its third. A rotation of v1 or v3 and the
+-- exclusive-or that follows it are one change
 unfoldable pub sipRound : State → State
 sipRound s =
     let a0 = add64 (s .v0) (s .v1) in

@@ -1,6 +1,6 @@
 -- `octets::runs::put` meets its contract. The invariant: the first i bytes of the run are pasted in.
 -- Assumes nothing.
-use Prim.Native.Nat.{_≤_, _<_, _+_, _-_}
+use Prim.Native.Nat.{_≤_, _-_}
 use Rattle.octets.proofs.RunLaws.{written-not, written-whole}
 use borrow.Author.Needs.{needs}
 use lib.ListN.{length, length-set}
