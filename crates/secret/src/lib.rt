@@ -1,5 +1,5 @@
-// A cookie secret: 16 bytes, held as the two words that SipHash takes of them. So two secrets are compared by two comparisons, a
-// compiler passes one in registers, and an enum can hold one.
+// A cookie secret: 16 bytes, held as the two words that SipHash takes of them. So two secrets are compared by two comparisons, and
+// an enum can hold one, as it can't hold an array.
 ghost use mathlib.Core.Path.{_≡_};
 ghost use Rattle.secret.specs.Secret.{secretOf, secretBytes, sameSecret};
 

@@ -36,7 +36,7 @@ vectors =
     record { key = printed 16 0x445536bcd2513298075a5d379663c962; message = printed 32 0x22681ab97d52c298010000005cf7c60920010db80220000159ded0f4876982b8; number = 0x7a502566d179bba6; bytes = printed 8 0xa6bb79d16625507a } ∷
     -- the SipHash paper, which prints the number
     record { key = printed 16 0x000102030405060708090a0b0c0d0e0f; message = printed 15 0x000102030405060708090a0b0c0d0e; number = 0xa129ca6149be45e5; bytes = printed 8 0xe545be4961ca29a1 } ∷
-    -- 449 bytes: what OpenSSL's SIPHASH gives. Bits 6, 7 and 8 of the length are set, so that no other power of two passes for 256
+    -- 449 bytes: what OpenSSL's SIPHASH gives. Bits 6 and 7 of the length are set, so that modulo 64 or 128 does not pass for modulo 256
     record { key = printed 16 0x000102030405060708090a0b0c0d0e0f; message = countedFrom 0 449; number = 0x026a121b38e0aa86; bytes = printed 8 0x86aae0381b126a02 } ∷ []
 
 -- a row with the hash that the definitions give
