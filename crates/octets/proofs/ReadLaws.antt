@@ -5,9 +5,10 @@ use Prim.Native.Nat.{ℕ, zero, suc, _+_, _*_, _≤_, _<_}
 use native.Mathlib.Nat.{add-suc, add-zero}
 use native.Mathlib.Decide.{decLt}
 use native.Mathlib.Omega.{arith}
-use lib.ListN.{length, take, drop, getD, drop-of-length-le, List·getD-eq-default}
-use lib.Seq.{drop-cons}
-use Rattle.octets.specs.Numbers.{leNumber, beNumber, be16At, be32At, be64At}
+use lib.ListN.{length, take, drop, getD, length-take, length-drop, drop-of-length-le, List·getD-eq-default}
+use lib.Seq.{drop-cons, length-take-le, getD-take, getD-drop}
+use Rattle.octets.proofs.NumberLaws.{le-again}
+use Rattle.octets.specs.Numbers.{leNumber, leBytes, beNumber, be16At, be32At, be64At}
 
 -- the k bytes of s from at + j on, with zeros past its end
 abbrev pub bytesFrom : ℕ → ℕ → ℕ → List ℕ → List ℕ
@@ -62,3 +63,20 @@ be32-at at s within = rw (add-zero at) at (be-from 4 at s within)
 
 pub be64-at : (at : ℕ) (s : List ℕ) → at + 8 ≤ length s → be64At s at ≡ beNumber (take 8 (drop at s))
 be64-at at s within = rw (add-zero at) at (be-from 8 at s within)
+
+-- a part of a run of bytes is written back from its number
+part-bytes : (k at : ℕ) (s : List ℕ) → ((i : ℕ) → getD s i 0 < 256) → (i : ℕ) → getD (take k (drop at s)) i 0 < 256
+part-bytes k at s bytes i =
+    elim (decLt i k) [
+      | yes within ↦ rw (getD-take k (drop at s) i 0 within, getD-drop) (bytes (at + i))
+      | no past ↦
+          let short : length (take k (drop at s)) ≤ i = omega (arith, length-take k (drop at s)) in
+          rw (List·getD-eq-default (take k (drop at s)) 0 short) (omega arith)
+    ]
+
+pub part-again : (k at : ℕ) (s : List ℕ) → at + k ≤ length s → ((i : ℕ) → getD s i 0 < 256)
+    → leBytes k (leNumber (take k (drop at s))) ≡ take k (drop at s)
+part-again k at s within bytes =
+    let part = take k (drop at s) in
+    let long : length part ≡ k = length-take-le k (drop at s) (omega (arith, length-drop at s)) in
+    ap (λ (n : ℕ). leBytes n (leNumber part)) (sym long) ∙ le-again part (part-bytes k at s bytes)

@@ -2,15 +2,15 @@
 use mathlib.Core.Path.{_≡_, refl, sym, ap, ap₂, _∙_}
 use mathlib.Core.Bool.{Bool, true, false, _&&_}
 use mathlib.Core.List.{List, _++_}
-use Prim.Native.Nat.{ℕ, _+_, _^_, _≤_, _<_}
-use native.Mathlib.Decide.{decLt}
+use Prim.Native.Nat.{ℕ, _+_, _^_, _<_}
 use native.Mathlib.Omega.{arith}
 use borrow.Author.Tests.{eqb-true, eq-eqb}
 use lib.Dec.{eqb}
-use lib.ListN.{length, take, drop, getD, take-append-drop, length-take, length-drop, List·getD-eq-default}
-use lib.Seq.{take-at, drop-at, drop-drop, take-all, length-take-le, getD-take, getD-drop}
+use lib.ListN.{length, take, drop, getD, take-append-drop, length-drop}
+use lib.Seq.{take-at, drop-at, drop-drop, take-all}
 use Rattle.octets.specs.Numbers.{leNumber, leBytes}
-use Rattle.octets.proofs.NumberLaws.{length-leBytes, le-back, le-again}
+use Rattle.octets.proofs.NumberLaws.{length-leBytes, le-back}
+use Rattle.octets.proofs.ReadLaws.{part-again}
 use Rattle.secret.specs.Secret.{secretOf, secretBytes, sameSecret}
 use Rattle.secret.specs.declared.Secret.{Secret}
 
@@ -43,27 +43,14 @@ read-back s fits0 fits1 =
     let high : take 8 (drop 8 (a ++ b)) ≡ b = rw (drop-at a b 8 (length-leBytes 8 (s .k0))) (take-all 8 b (omega (arith, length-leBytes 8 (s .k1)))) in
     ap₂ (λ (x y : ℕ). record { k0 = x; k1 = y }) (ap leNumber low ∙ le-back 8 (s .k0) fits0) (ap leNumber high ∙ le-back 8 (s .k1) fits1)
 
--- the first k bytes of bytes are bytes
-front-bytes : (k : ℕ) (bs : List ℕ) → ((i : ℕ) → getD bs i 0 < 256) → (i : ℕ) → getD (take k bs) i 0 < 256
-front-bytes k bs bytes i =
-    elim (decLt i k) [
-      | yes within ↦ rw (getD-take k bs i 0 within) (bytes i)
-      | no past ↦
-          let short : length (take k bs) ≤ i = omega (arith, length-take k bs) in
-          rw (List·getD-eq-default (take k bs) 0 short) (omega arith)
-    ]
-
-eight : (bs : List ℕ) → length bs ≡ 8 → ((i : ℕ) → getD bs i 0 < 256) → leBytes 8 (leNumber bs) ≡ bs
-eight bs long bytes = ap (λ (n : ℕ). leBytes n (leNumber bs)) (sym long) ∙ le-again bs bytes
-
 -- 16 bytes are written back from the secret that they are
 pub bytes-back : (bs : List ℕ) → length bs ≡ 16 → ((i : ℕ) → getD bs i 0 < 256) → secretBytes (secretOf bs) ≡ bs
 unfolding secretOf secretBytes
 bytes-back bs long bytes =
     let rest : take 8 (drop 8 bs) ≡ drop 8 bs = take-all 8 (drop 8 bs) (omega (arith, length-drop 8 bs)) in
-    let low : leBytes 8 (leNumber (take 8 bs)) ≡ take 8 bs = eight (take 8 bs) (omega (arith, length-take-le 8 bs (omega arith))) (front-bytes 8 bs bytes) in
-    let high : leBytes 8 (leNumber (drop 8 bs)) ≡ drop 8 bs = eight (drop 8 bs) (omega (arith, length-drop 8 bs)) (λ i. rw getD-drop (bytes (8 + i))) in
-    ap₂ (λ (x y : List ℕ). x ++ y) low (ap (λ (l : List ℕ). leBytes 8 (leNumber l)) rest ∙ high) ∙ take-append-drop 8 bs
+    let low : leBytes 8 (leNumber (take 8 bs)) ≡ take 8 bs = part-again 8 0 bs (omega arith) bytes in
+    let high : leBytes 8 (leNumber (take 8 (drop 8 bs))) ≡ drop 8 bs = part-again 8 8 bs (omega arith) bytes ∙ rest in
+    ap₂ (λ (x y : List ℕ). x ++ y) low high ∙ take-append-drop 8 bs
 
 -- two runs of 16 bytes that are the same secret are the same bytes
 pub secret-bytes : (xs ys : List ℕ) → length xs ≡ 16 → length ys ≡ 16 → ((i : ℕ) → getD xs i 0 < 256) → ((i : ℕ) → getD ys i 0 < 256)

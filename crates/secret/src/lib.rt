@@ -2,6 +2,7 @@
 // an enum can hold one, as it can't hold an array.
 ghost use mathlib.Core.Path.{_≡_};
 ghost use Rattle.secret.specs.Secret.{secretOf, secretBytes, sameSecret};
+ghost use Rattle.secret.specs.Secrets.{generatingOf};
 
 pub struct Secret {
     pub k0: u64,
@@ -71,5 +72,27 @@ impl Secret {
             return false;
         }
         self.k1 == other.k1
+    }
+}
+
+// The secrets that a member holds: the one that it makes cookies with and accepts, and perhaps one other that it only accepts. Where
+// none other is held, none is there to be tried by mistake.
+pub enum Secrets {
+    One(Secret),
+    Two { generating: Secret, other: Secret },
+}
+
+impl Secrets {
+    // The secret that cookies are made with.
+    pub fn generating(self) -> Secret
+        ensures { λ r. ⌜ r ≡ generatingOf self ⌝ }
+    {
+        match self {
+            Secrets::One(secret) => secret,
+            Secrets::Two {
+                generating,
+                other: _,
+            } => generating,
+        }
     }
 }

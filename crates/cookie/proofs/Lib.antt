@@ -1,0 +1,5 @@
+pub mod BodyLaws
+pub mod OptionLaws
+pub mod ReplyLaws
+pub mod SerialLaws
+pub mod ServerLaws

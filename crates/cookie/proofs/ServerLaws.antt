@@ -1,0 +1,245 @@
+-- What the proofs of server_cookie and message cite, one law for each answer. Assumes nothing.
+use mathlib.Core.Path.{_≡_, refl, sym, ap, _∙_}
+use mathlib.Core.Bool.{Bool, true, false}
+use mathlib.Core.List.{List, [], _∷_, _++_}
+use Prim.Native.Nat.{ℕ, _+_, _-_, _≤_, _<_}
+use native.Mathlib.Nat.{zero-add}
+use native.Mathlib.Omega.{arith}
+use borrow.Author.Tests.{eq-eqb, ne-eqb, le-leb, lt-leb}
+use lib.Dec.{eqb, leb}
+use lib.ListN.{length, length-append}
+use native.Mathlib.Decide.{decLt}
+use borrow.Author.Tests.{eqb-true, lt-ltb, le-ltb}
+use mathlib.Core.Bool.{not, cond, _&&_, _||_, true≢false, false≢true}
+use mathlib.Core.Option.{Option, none, some}
+use lib.Dec.{ltb}
+use lib.IntN.{ℤ, pos, negsuc}
+use lib.ListN.{take, drop, getD}
+use lib.Signed.{leZ, ltZ, mag}
+use mir.Syntax.{w8, w32, w64}
+use mir.Val.{toZ, ofZ, Fits, SFits}
+use mir.ValLaws.{toZ-ofZ}
+use Rattle.octets.specs.Numbers.{leNumber, leBytes, be32At}
+use Rattle.octets.specs.Runs.{sameRun, written}
+use Rattle.octets.proofs.NumberLaws.{le-back}
+use Rattle.octets.proofs.ReadLaws.{part-from, part-again}
+use Rattle.octets.proofs.RunLaws.{same-refl, same-true, length-written, written-front, written-next}
+use Rattle.secret.specs.declared.Secret.{Secret}
+use Rattle.secret.specs.declared.Secrets.{Secrets}
+use Rattle.secret.specs.declared.Secrets.the-variants.{One, Two}
+use Rattle.secret.specs.Secrets.{generatingOf, otherOf}
+use Rattle.siphash.specs.SipHash.{sipHash24, sipHash24Bytes}
+use Rattle.cookie.proofs.BodyLaws.{judge-matching}
+use Rattle.cookie.specs.Serial.{age}
+use Rattle.cookie.specs.ServerCookie.{CookieMethod, Finding, sipHashMethod, matches, matching, isTimely, byTime, byHash, judgeBody, verdict, answer, judgement, checkingRefusal, finding, matchOf, isDisabled, isAddress, isBody}
+use Rattle.cookie.specs.ServerCookie.Answer.{refused, found}
+use Rattle.cookie.specs.ServerCookie.Finding.{ignored, good, bad}
+use Rattle.cookie.specs.declared.server_cookie.Match.{Match}
+use Rattle.cookie.specs.declared.server_cookie.Match.the-variants.{By, Nothing}
+use Rattle.cookie.specs.declared.Mode.{Mode}
+use Rattle.cookie.specs.declared.Mode.the-variants.{Disabled, Enabled, Enforced}
+use Rattle.cookie.specs.declared.Verdict.{Verdict}
+use Rattle.cookie.specs.declared.Which.{Which}
+use Rattle.cookie.specs.declared.Which.the-variants.{Generating, Other}
+
+-- ---- lengths
+
+module _ (s : List ℕ) where
+  pub is-4 : length s ≡ 4 → true ≡ isAddress s
+  unfolding isAddress
+  is-4 e = rw (eq-eqb (length s) 4 e)
+
+  pub is-16 : length s ≡ 16 → true ≡ isAddress s
+  unfolding isAddress
+  is-16 e = rw e
+
+  pub is-neither : (length s ≡ 4 → ⊥) → (length s ≡ 16 → ⊥) → false ≡ isAddress s
+  unfolding isAddress
+  is-neither n4 n16 = rw (ne-eqb (length s) 4 n4, ne-eqb (length s) 16 n16)
+
+  pub is-8 : length s ≡ 8 → true ≡ isBody s
+  unfolding isBody
+  is-8 e = rw e
+
+  pub is-between : (length s ≡ 8 → ⊥) → 16 ≤ length s → length s < 41 → true ≡ isBody s
+  unfolding isBody
+  is-between n8 low high = rw (ne-eqb (length s) 8 n8, le-leb 16 (length s) low, le-leb (length s) 40 (omega arith))
+
+  pub is-short : (length s ≡ 8 → ⊥) → length s < 16 → false ≡ isBody s
+  unfolding isBody
+  is-short n8 low = rw (ne-eqb (length s) 8 n8, lt-leb 16 (length s) low)
+
+  pub is-long : (length s ≡ 8 → ⊥) → 41 ≤ length s → false ≡ isBody s
+  unfolding isBody
+  is-long n8 high = rw (ne-eqb (length s) 8 n8, le-leb 16 (length s) (omega arith), lt-leb (length s) 40 (omega arith))
+
+-- ---- step 3
+
+leb-not : (m n : ℕ) → leb m n ≡ not (ltb n m)
+leb-not m n =
+    elim (decLt n m) [ yes h ↦ rw (lt-leb m n h, lt-ltb n m h) | no h ↦ rw (le-leb m n (omega arith), le-ltb n m (omega arith)) ]
+
+-- what is not below is at least
+pub le-not : (a b : ℤ) → leZ a b ≡ not (ltZ b a)
+le-not (pos m) (pos n) = leb-not m n
+le-not (pos m) (negsuc n) = refl
+le-not (negsuc m) (pos n) = refl
+le-not (negsuc m) (negsuc n) = leb-not n m
+
+module _ (a : ℤ) (w : Which) where
+  new : ltZ a (negsuc 299) ≡ true → bad 3 ≡ byTime a w
+  unfolding byTime isTimely
+  new below = rw (le-not (negsuc 299) a, below)
+
+  old : ltZ a (negsuc 299) ≡ false → ltZ (pos 3600) a ≡ true → bad 3 ≡ byTime a w
+  unfolding byTime isTimely
+  old not-below above = rw (le-not (negsuc 299) a, le-not a (pos 3600), not-below, above)
+
+  timely : ltZ a (negsuc 299) ≡ false → ltZ (pos 3600) a ≡ false → good a w ≡ byTime a w
+  unfolding byTime isTimely
+  timely not-below not-above = rw (le-not (negsuc 299) a, le-not a (pos 3600), not-below, not-above)
+
+-- the same, where the age is read from a local's bits
+module _ (a : ℤ) (w : Which) (ok : SFits w32 a) where
+  read : toZ w32 (ofZ w32 a) ≡ a
+  read = toZ-ofZ w32 a ok
+
+  pub too-new : ltZ (toZ w32 (ofZ w32 a)) (negsuc 299) ≡ true → bad 3 ≡ byTime a w
+  too-new below = new a w (rw read at below)
+
+  pub too-old : ltZ (toZ w32 (ofZ w32 a)) (negsuc 299) ≡ false → ltZ (pos 3600) (toZ w32 (ofZ w32 a)) ≡ true → bad 3 ≡ byTime a w
+  too-old not-below above = old a w (rw read at not-below) (rw read at above)
+
+  pub in-time : ltZ (toZ w32 (ofZ w32 a)) (negsuc 299) ≡ false → ltZ (pos 3600) (toZ w32 (ofZ w32 a)) ≡ false
+      → good (toZ w32 (ofZ w32 a)) w ≡ byTime a w
+  in-time not-below not-above = ap (λ (z : ℤ). good z w) read ∙ timely a w (rw read at not-below) (rw read at not-above)
+
+-- ---- step 2
+
+-- two words are the same exactly where their bytes are
+pub same-word : (x y : ℕ) → Fits w64 x → Fits w64 y → eqb x y ≡ sameRun (leBytes 8 y) (leBytes 8 x)
+same-word x y fx fy = go (eqb x y) refl
+  where
+    go : (t : Bool) → eqb x y ≡ t → t ≡ sameRun (leBytes 8 y) (leBytes 8 x)
+    go true e = rw (eqb-true x y e) (sym (same-refl (leBytes 8 y)))
+    go false e = other (sameRun (leBytes 8 y) (leBytes 8 x)) refl
+      where
+        other : (t : Bool) → sameRun (leBytes 8 y) (leBytes 8 x) ≡ t → false ≡ t
+        other false s = refl
+        other true s =
+            let back : y ≡ x = sym (le-back 8 y (fy .fits)) ∙ ap leNumber (same-true (leBytes 8 y) (leBytes 8 x) s) ∙ le-back 8 x (fx .fits) in
+            sym e ∙ eq-eqb x y (sym back)
+
+pub hash-is : (secret : Secret) (message : List ℕ) (x hash : ℕ) → Fits w64 x → Fits w64 hash → x ≡ sipHash24 secret message
+    → eqb x hash ≡ matches sipHashMethod message (leBytes 8 hash) secret
+unfolding matches sipHash24Bytes
+hash-is secret message x hash fx fh e = same-word x hash fx fh ∙ ap (λ (n : ℕ). sameRun (leBytes 8 hash) (leBytes 8 n)) e
+
+-- eight bytes read as a word are the bytes of that word
+pub field-is : (s : List ℕ) (word : ℕ) → 24 ≤ length s → ((i : ℕ) → Fits w8 (getD s i 0))
+    → word ≡ leNumber (getD s 16 0 ∷ getD s 17 0 ∷ getD s 18 0 ∷ getD s 19 0 ∷ getD s 20 0 ∷ getD s 21 0 ∷ getD s 22 0 ∷ getD s 23 0 ∷ [])
+    → leBytes 8 word ≡ take 8 (drop 16 s)
+field-is s word long bytes e =
+    ap (leBytes 8) (e ∙ ap leNumber (part-from 8 0 16 s long)) ∙ part-again 8 16 s long (λ i. bytes i .fits)
+
+-- the secrets in their order
+module _ (m : CookieMethod) (message hash : List ℕ) (secrets : Secrets) (g : Secret) (t : Bool)
+    (first-is : g ≡ generatingOf secrets) (told : t ≡ matches m message hash g) where
+  pub match-generating : t ≡ true → some Generating ≡ matching m message hash secrets
+  unfolding matching
+  match-generating yes′ = rw (← first-is, ← told, yes′)
+
+  pub match-none : t ≡ false → (s : Secret) → secrets ≡ One s → none ≡ matching m message hash secrets
+  unfolding matching
+  match-none no′ s one = rw (← first-is, ← told, no′, one)
+
+  module _ (no′ : t ≡ false) (s o : Secret) (two : secrets ≡ Two s o) (u : Bool) (told′ : u ≡ matches m message hash o) where
+    pub match-other : u ≡ true → some Other ≡ matching m message hash secrets
+    unfolding matching
+    match-other yes′ = rw (← first-is, ← told, no′, two, ← told′, yes′)
+
+    pub match-neither : u ≡ false → none ≡ matching m message hash secrets
+    unfolding matching
+    match-neither no″ = rw (← first-is, ← told, no′, two, ← told′, no″)
+
+-- ---- what is hashed
+
+-- two runs put one after the other at the front of a buffer
+pub lay-is : (buffer x y one two : List ℕ) → length x + length y ≤ length buffer
+    → one ≡ written buffer 0 x → two ≡ written one (length x) y
+    → (length x + length y ≤ length two) × (take (length x + length y) two ≡ x ++ y)
+lay-is buffer x y one two within e f =
+    let whole : two ≡ written buffer 0 (x ++ y) =
+    f ∙ ap (λ (b : List ℕ). written b (length x) y) e ∙ (rw (zero-add (length x)) at (written-next buffer 0 x y (omega arith))) in
+    let long : length (x ++ y) ≡ length x + length y = length-append x y in
+    let front : take (length (x ++ y)) (written buffer 0 (x ++ y)) ≡ x ++ y = rw (zero-add (length (x ++ y))) at (written-front buffer 0 (x ++ y) (omega arith)) in
+    (rw whole (omega (arith, length-written buffer 0 (x ++ y))), rw (whole, ← long) front)
+
+-- ---- the verdict
+
+module _ (secrets : Secrets) (clock : ℕ) (address body : List ℕ) (long : length body ≡ 24) (version : getD body 8 0 ≡ 1)
+    (buffer : List ℕ) (end : ℕ) (laid : take end buffer ≡ take 16 body ++ address) (hash : ℕ) (field : leBytes 8 hash ≡ take 8 (drop 16 body))
+    (v : Match) (told : matchOf v ≡ matching sipHashMethod (take (end - 0) buffer) (leBytes 8 hash) secrets) where
+  by-match : byHash (age clock (be32At body 12)) (matchOf v) ≡ judgeBody sipHashMethod secrets clock address body
+  by-match =
+      let same-end : end - 0 ≡ end = omega arith in
+      let whole : take (end - 0) buffer ≡ take 16 body ++ address = rw same-end laid in
+      rw (told, whole, field) (sym (judge-matching sipHashMethod secrets clock address body long version))
+
+  pub judge-hash : v ≡ Nothing → bad 2 ≡ judgeBody sipHashMethod secrets clock address body
+  judge-hash nothing = ap (λ (x : Match). byHash (age clock (be32At body 12)) (matchOf x)) (sym nothing) ∙ by-match
+
+  pub judge-time : (w : Which) (stamp : ℕ) (a : ℤ) (r : Verdict) → v ≡ By w → stamp ≡ be32At body 12
+      → mag a < 2147483648 → a ≡ age clock stamp → finding r ≡ byTime (toZ w32 (ofZ w32 a)) w
+      → finding r ≡ judgeBody sipHashMethod secrets clock address body
+  judge-time w stamp a r by stamped ok aged told′ =
+      told′ ∙ ap (λ (x : ℤ). byTime x w) (toZ-ofZ w32 a (record { sfits = ok }) ∙ aged ∙ ap (age clock) stamped) ∙ ap (λ (x : Match). byHash (age clock (be32At body 12)) (matchOf x)) (sym by) ∙ by-match
+
+-- ---- the refusals. A test that was turned round tells of `not`
+
+pub not-true : (a : Bool) → not a ≡ true → a ≡ false
+not-true true e = absurd (false≢true e)
+not-true false e = refl
+
+pub not-false : (a : Bool) → not a ≡ false → a ≡ true
+not-false true e = refl
+not-false false e = absurd (true≢false e)
+
+module _ (mode : Mode) (secrets : Secrets) (clock : ℕ) (address body : List ℕ) (a : Bool) (is-a : a ≡ isAddress address) where
+  pub refuse-address : not a ≡ true → refused 2 ≡ judgement sipHashMethod mode secrets clock address body
+  unfolding judgement checkingRefusal
+  refuse-address e = rw (← is-a, not-true a e)
+
+  module _ (e : not a ≡ false) (d : Bool) (is-d : d ≡ isDisabled mode) where
+    ignores : (n : Mode) → isDisabled n ≡ true → ignored ≡ verdict sipHashMethod n secrets clock address body
+    ignores Disabled f = refl
+    ignores Enabled f = absurd (false≢true f)
+    ignores Enforced f = absurd (false≢true f)
+
+    pub judge-ignored : d ≡ true → found ignored ≡ judgement sipHashMethod mode secrets clock address body
+    unfolding judgement checkingRefusal
+    judge-ignored f = ap found (ignores mode (sym is-d ∙ f)) ∙ rw (← is-a, not-false a e, ← is-d, f)
+
+    module _ (f : d ≡ false) (b : Bool) (is-b : b ≡ isBody body) where
+      pub refuse-body : not b ≡ true → refused 10 ≡ judgement sipHashMethod mode secrets clock address body
+      unfolding judgement checkingRefusal
+      refuse-body g = rw (← is-a, not-false a e, ← is-d, f, ← is-b, not-true b g)
+
+      judges : (n : Mode) → isDisabled n ≡ false → judgeBody sipHashMethod secrets clock address body ≡ verdict sipHashMethod n secrets clock address body
+      judges Disabled f = absurd (true≢false f)
+      judges Enabled f = refl
+      judges Enforced f = refl
+
+      pub judge-found : not b ≡ false → (v : Verdict) → finding v ≡ judgeBody sipHashMethod secrets clock address body
+          → found (finding v) ≡ judgement sipHashMethod mode secrets clock address body
+      unfolding judgement checkingRefusal
+      judge-found g v told = ap found (told ∙ judges mode (sym is-d ∙ f)) ∙ rw (← is-a, not-false a e, ← is-d, f, ← is-b, not-false b g)
+
+-- an address is at most 16 bytes
+pub address-short : (address : List ℕ) (a : Bool) → a ≡ isAddress address → not a ≡ false → length address ≤ 16
+unfolding isAddress
+address-short address a is-a e = go (eqb (length address) 4) refl (sym is-a ∙ not-false a e)
+  where
+    go : (t : Bool) → eqb (length address) 4 ≡ t → (t || eqb (length address) 16) ≡ true → length address ≤ 16
+    go true q h = let z : length address ≡ 4 = eqb-true (length address) 4 q in omega arith
+    go false q h = let z : length address ≡ 16 = eqb-true (length address) 16 h in omega arith

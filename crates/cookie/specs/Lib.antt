@@ -1,0 +1,4 @@
+pub mod CookieOption
+pub mod ReplyTable
+pub mod Serial
+pub mod ServerCookie

@@ -1,0 +1,179 @@
+-- The verdict on a COOKIE body: RFC 9018, section 4 (its draft, source 001, has the same number), and document 01, "The verdict". A COOKIE body is
+-- the client cookie, 8 bytes, and the server cookie; a server cookie of 16 bytes is version 1, reserved 3, timestamp 4, hash 8. Assumes nothing.
+use Prim.Native.Nat.{ℕ, zero, suc, _+_}
+use mathlib.Core.Bool.{Bool, true, false, not, cond, _&&_, _||_}
+use mathlib.Core.List.{List, [], _∷_, _++_}
+use mathlib.Core.Option.{Option, none, some}
+use lib.Dec.{eqb, leb}
+use lib.IntN.{ℤ, pos, negsuc}
+use lib.Signed.{leZ}
+use lib.ListN.{length, take, drop, getD}
+use Rattle.octets.specs.Numbers.{be32At}
+use Rattle.octets.specs.Refusals.{_when_, first}
+use Rattle.octets.specs.Runs.{sameRun}
+use Rattle.secret.specs.declared.Secret.{Secret}
+use Rattle.secret.specs.declared.Secrets.{Secrets}
+use Rattle.secret.specs.Secrets.{generatingOf, otherOf}
+use Rattle.siphash.specs.SipHash.{sipHash24Bytes}
+use Rattle.cookie.specs.Serial.{age}
+use Rattle.cookie.specs.declared.Judged.{Judged}
+use Rattle.cookie.specs.declared.Judged.the-variants as judged-as
+use Rattle.cookie.specs.declared.server_cookie.Match.{Match}
+use Rattle.cookie.specs.declared.server_cookie.Match.the-variants.{By, Nothing}
+use Rattle.cookie.specs.declared.Mode.{Mode}
+use Rattle.cookie.specs.declared.Mode.the-variants.{Disabled, Enabled, Enforced}
+use Rattle.cookie.specs.declared.Reason.{Reason}
+use Rattle.cookie.specs.declared.Reason.the-variants.{Method, Hash, Time}
+use Rattle.cookie.specs.declared.Refusal.{Refusal}
+use Rattle.cookie.specs.declared.Refusal.the-variants.{Output, Address, Body}
+use Rattle.cookie.specs.declared.Verdict.{Verdict}
+use Rattle.cookie.specs.declared.Verdict.the-variants.{Ignored, Absent, ClientOnly, Bad, Good}
+use Rattle.cookie.specs.declared.Which.{Which}
+use Rattle.cookie.specs.declared.Which.the-variants.{Generating, Other}
+
+-- ---- the answers, in document 01's words and numbers
+
+-- a verdict. A bad one has the number of the step that failed first: 1 method, 2 hash, 3 time
+pub data Finding : Type 0 where
+  ignored absent clientOnly : Finding
+  bad : ℕ → Finding
+  good : ℤ → Which → Finding
+
+-- a refusal of the request table by its number, or the verdict
+pub data Answer : Type 0 where
+  refused : ℕ → Answer
+  found : Finding → Answer
+
+-- ---- what the code's answers say
+
+abbrev pub stepOf : Reason → ℕ
+stepOf Method = 1
+stepOf Hash = 2
+stepOf Time = 3
+
+abbrev pub finding : Verdict → Finding
+finding Ignored = ignored
+finding Absent = absent
+finding ClientOnly = clientOnly
+finding (Bad reason) = bad (stepOf reason)
+finding (Good a which) = good a which
+
+abbrev pub matchOf : Match → Option Which
+matchOf (By which) = some which
+matchOf Nothing = none
+
+abbrev pub refusalNumber : Refusal → ℕ
+refusalNumber Output = 1
+refusalNumber Address = 2
+refusalNumber Body = 10
+
+abbrev pub answerOf : Judged → Answer
+answerOf (judged-as.Refused refusal) = refused (refusalNumber refusal)
+answerOf (judged-as.Found verdict) = found (finding verdict)
+
+-- ---- the method
+
+-- what makes and checks a server cookie (RFC 9018, "DNS Server Cookie Methods"): the version byte, and the hash of a message under a secret
+pub record CookieMethod : Type 0 where
+  pub version : ℕ
+  pub hash : Secret → List ℕ → List ℕ
+
+-- version 1
+abbrev pub sipHashMethod : CookieMethod
+sipHashMethod = record { version = 1; hash = sipHash24Bytes }
+
+-- ---- the parts
+
+abbrev pub clientCookie : List ℕ → List ℕ
+clientCookie body = take 8 body
+
+abbrev pub serverCookie : List ℕ → List ℕ
+serverCookie body = drop 8 body
+
+abbrev pub timestamp : List ℕ → ℕ
+timestamp server = be32At server 4
+
+abbrev pub hashField : List ℕ → List ℕ
+hashField server = take 8 (drop 8 server)
+
+-- what is hashed: the client cookie, bytes 0 to 7 of the server cookie as received, and the address
+abbrev pub hashed : List ℕ → List ℕ → List ℕ → List ℕ
+hashed client server address = client ++ take 8 server ++ address
+
+-- ---- the three steps
+
+module _ (m : CookieMethod) where
+  -- 1. the server cookie is 16 bytes, and its first byte is the method's version
+  unfoldable pub isMethod : List ℕ → Bool
+  isMethod server = eqb (length server) 16 && eqb (getD server 0 0) (m .version)
+
+  -- a secret gives a message this hash
+  unfoldable pub matches : List ℕ → List ℕ → Secret → Bool
+  matches message hash secret = sameRun hash (m .hash secret message)
+
+  abbrev pub matchingOther : List ℕ → List ℕ → Option Secret → Option Which
+  matchingOther message hash none = none
+  matchingOther message hash (some secret) = cond (matches message hash secret) (some Other) none
+
+  -- 2. the secret that does: the generating one, or else the other
+  unfoldable pub matching : List ℕ → List ℕ → Secrets → Option Which
+  matching message hash secrets = cond (matches message hash (generatingOf secrets)) (some Generating) (matchingOther message hash (otherOf secrets))
+
+-- 3. good from -300 to 3,600
+unfoldable pub isTimely : ℤ → Bool
+isTimely a = leZ (negsuc 299) a && leZ a (pos 3600)
+
+unfoldable pub byTime : ℤ → Which → Finding
+byTime a which = cond (isTimely a) (good a which) (bad 3)
+
+abbrev pub byHash : ℤ → Option Which → Finding
+byHash a none = bad 2
+byHash a (some which) = byTime a which
+
+-- ---- the verdict
+
+module _ (m : CookieMethod) where
+  -- the first failing step names the reason
+  unfoldable pub judgeServer : Secrets → ℕ → List ℕ → List ℕ → List ℕ → Finding
+  judgeServer secrets clock address client server =
+      cond (isMethod m server)
+      (byHash (age clock (timestamp server)) (matching m (hashed client server address) (hashField server) secrets))
+      (bad 1)
+
+  unfoldable pub judgeBody : Secrets → ℕ → List ℕ → List ℕ → Finding
+  judgeBody secrets clock address body =
+      cond (eqb (length body) 8) clientOnly (judgeServer secrets clock address (clientCookie body) (serverCookie body))
+
+  abbrev pub verdict : Mode → Secrets → ℕ → List ℕ → List ℕ → Finding
+  verdict Disabled secrets clock address body = ignored
+  verdict Enabled secrets clock address body = judgeBody secrets clock address body
+  verdict Enforced secrets clock address body = judgeBody secrets clock address body
+
+-- ---- the refusals that an address and a COOKIE body can get, in the order of the checks
+
+abbrev pub isDisabled : Mode → Bool
+isDisabled Disabled = true
+isDisabled Enabled = false
+isDisabled Enforced = false
+
+-- an address is 4 or 16 bytes
+unfoldable pub isAddress : List ℕ → Bool
+isAddress address = eqb (length address) 4 || eqb (length address) 16
+
+-- a COOKIE body is 8 bytes, or 16 to 40
+unfoldable pub isBody : List ℕ → Bool
+isBody body = eqb (length body) 8 || leb 16 (length body) && leb (length body) 40
+
+unfoldable pub checkingRefusal : Mode → List ℕ → List ℕ → ℕ
+checkingRefusal mode address body =
+    first (2 when not (isAddress address)
+    ∷ 10 when (not (isDisabled mode) && not (isBody body))
+    ∷ [])
+
+abbrev pub answer : ℕ → Finding → Answer
+answer zero v = found v
+answer (suc n) v = refused (suc n)
+
+-- the whole: what is answered to a COOKIE body
+unfoldable pub judgement : CookieMethod → Mode → Secrets → ℕ → List ℕ → List ℕ → Answer
+judgement m mode secrets clock address body = answer (checkingRefusal mode address body) (verdict m mode secrets clock address body)
