@@ -1,5 +1,9 @@
 pub mod BodyLaws
+pub mod Cases
+pub mod Fresh
+pub mod Good
 pub mod OptionLaws
+pub mod PCases
 pub mod ReplyLaws
 pub mod SerialLaws
 pub mod ServerLaws

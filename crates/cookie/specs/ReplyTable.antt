@@ -31,9 +31,9 @@ pub record Owed : Type 0 where
   pub sent : Sent
   pub option : Carried
 
-infix 68 _with′_
-abbrev pub _with′_ : Sent → Carried → Owed
-s with′ o = record { sent = s; option = o }
+infix 68 _carrying_
+abbrev pub _carrying_ : Sent → Carried → Owed
+s carrying o = record { sent = s; option = o }
 
 -- what the code's answer says
 abbrev pub sentOf : Action → Sent
@@ -42,7 +42,7 @@ sentOf BadCookie = error 23
 sentOf Truncate = truncate
 
 abbrev pub owedOf : Reply → Owed
-owedOf r = sentOf (r .action) with′ r .option
+owedOf r = sentOf (r .action) carrying r .option
 
 -- the reserved bytes of a server cookie are zero
 unfoldable pub reservedZero : List ℕ → Bool
@@ -59,21 +59,21 @@ keptOrFresh a Other server = Fresh
 
 -- the table. In mode Disabled every request is served with no option, and so is an ignored cookie in the others
 abbrev pub enabledReply : Finding → List ℕ → Owed
-enabledReply ignored server = serve with′ Nothing
-enabledReply absent server = serve with′ Nothing
-enabledReply clientOnly server = serve with′ Fresh
-enabledReply (bad n) server = error 23 with′ Fresh
-enabledReply (good a w) server = serve with′ keptOrFresh a w server
+enabledReply ignored server = serve carrying Nothing
+enabledReply absent server = serve carrying Nothing
+enabledReply clientOnly server = serve carrying Fresh
+enabledReply (bad n) server = error 23 carrying Fresh
+enabledReply (good a w) server = serve carrying keptOrFresh a w server
 
 abbrev pub enforcedReply : ℕ → Finding → List ℕ → Owed
-enforcedReply qdcount ignored server = serve with′ Nothing
-enforcedReply qdcount absent server = truncate with′ Nothing
-enforcedReply qdcount clientOnly server = cond (eqb qdcount 0) serve (error 23) with′ Fresh
-enforcedReply qdcount (bad n) server = error 23 with′ Fresh
-enforcedReply qdcount (good a w) server = serve with′ keptOrFresh a w server
+enforcedReply qdcount ignored server = serve carrying Nothing
+enforcedReply qdcount absent server = truncate carrying Nothing
+enforcedReply qdcount clientOnly server = cond (eqb qdcount 0) serve (error 23) carrying Fresh
+enforcedReply qdcount (bad n) server = error 23 carrying Fresh
+enforcedReply qdcount (good a w) server = serve carrying keptOrFresh a w server
 
 abbrev pub replyOwed : Mode → ℕ → Finding → List ℕ → Owed
-replyOwed Disabled qdcount v body = serve with′ Nothing
+replyOwed Disabled qdcount v body = serve carrying Nothing
 replyOwed Enabled qdcount v body = enabledReply v (serverCookie body)
 replyOwed Enforced qdcount v body = enforcedReply qdcount v (serverCookie body)
 

@@ -1,0 +1,163 @@
+-- The claims of specs/Cases.antt, by computing the definitions. Assumes nothing.
+use mathlib.Core.Path.{refl}
+use Rattle.octets.specs.Numbers.{leNumber, leBytes, beNumber, beBytes, printed}
+use Rattle.octets.specs.Runs.{sameRun}
+use Rattle.secret.specs.Secret.{secretOf}
+use Rattle.siphash.specs.SipHash.{sipHash24Bytes, sipHash24, finalized, absorbed, compressed, initialized, lastWord, wordAt, rounds, sipRound, rotl64}
+use Rattle.cookie.specs.Cases.{ReasonsHold, SecretsHold, RefusalsHold, AgesHold, RepliesHold, OptionsHold}
+use Rattle.cookie.specs.CookieOption.{freshFront, freshServer, freshOption, keptOption, freshRefusal, keptRefusal, writtenBody}
+use Rattle.cookie.specs.PCases.{s1}
+use Rattle.cookie.specs.ReplyTable.{reservedZero, isYoung}
+use Rattle.cookie.specs.Serial.{age}
+use Rattle.cookie.specs.ServerCookie.{isMethod, matches, matching, isTimely, byTime, judgeServer, judgeBody, isAddress, isBody, checkingRefusal, judgement}
+
+pub reasons-hold : ReasonsHold
+unfolding judgement checkingRefusal isAddress isBody judgeBody judgeServer isMethod matching matches byTime isTimely age s1 sameRun secretOf sipHash24Bytes sipHash24 finalized absorbed compressed initialized lastWord wordAt rounds sipRound rotl64 leNumber leBytes beNumber beBytes printed
+reasons-hold =
+    record {
+      good-here = refl;
+      version-0 = refl;
+      version-2 = refl;
+      version-240 = refl;
+      shorter = refl;
+      longer = refl;
+      least = refl;
+      most = refl;
+      client-differs = refl;
+      reserved-differs = refl;
+      time-differs = refl;
+      first-of-hash = refl;
+      last-of-hash = refl;
+      address-differs = refl;
+      six = refl;
+      six-differs = refl;
+      secret-differs = refl;
+      reserved-one = refl;
+      reserved-two = refl;
+      reserved-three = refl;
+      too-old = refl;
+      too-new = refl;
+      method-before-hash = refl;
+      hash-before-time = refl;
+      method-before-time = refl;
+    }
+
+pub secrets-hold : SecretsHold
+unfolding judgement checkingRefusal isAddress isBody judgeBody judgeServer isMethod matching matches byTime isTimely age s1 sameRun secretOf sipHash24Bytes sipHash24 finalized absorbed compressed initialized lastWord wordAt rounds sipRound rotl64 leNumber leBytes beNumber beBytes printed
+secrets-hold =
+    record {
+      none-other = refl;
+      zeros-held = refl;
+      zeros-other = refl;
+      first-of-two = refl;
+      second-of-two = refl;
+      neither-of-two = refl;
+      both = refl;
+      first-too-old = refl;
+      second-too-old = refl;
+    }
+
+pub refusals-hold : RefusalsHold
+unfolding judgement checkingRefusal isAddress isBody judgeBody judgeServer isMethod matching matches byTime isTimely age s1 sameRun secretOf sipHash24Bytes sipHash24 finalized absorbed compressed initialized lastWord wordAt rounds sipRound rotl64 leNumber leBytes beNumber beBytes printed
+refusals-hold =
+    record {
+      bytes-0 = refl;
+      bytes-7 = refl;
+      bytes-9 = refl;
+      bytes-15 = refl;
+      bytes-41 = refl;
+      bytes-8 = refl;
+      bytes-16 = refl;
+      bytes-40 = refl;
+      enforced-15 = refl;
+      address-0 = refl;
+      address-3 = refl;
+      address-5 = refl;
+      address-15 = refl;
+      address-17 = refl;
+      address-enforced = refl;
+      address-disabled = refl;
+      address-first = refl;
+      disabled-cookie = refl;
+      disabled-body = refl;
+      disabled-six = refl;
+    }
+
+pub ages-hold : AgesHold
+unfolding age
+ages-hold =
+    record {
+      same = refl;
+      later = refl;
+      sooner = refl;
+      furthest-old = refl;
+      furthest-new = refl;
+      round-old = refl;
+      round-new = refl;
+      p3 = refl;
+    }
+
+pub replies-hold : RepliesHold
+unfolding reservedZero isYoung sameRun printed beBytes
+replies-hold =
+    record {
+      disabled-ignored = refl;
+      disabled-absent = refl;
+      disabled-client-only = refl;
+      disabled-bad = refl;
+      disabled-good = refl;
+      enabled-ignored = refl;
+      enabled-absent = refl;
+      enabled-client-only = refl;
+      enabled-method = refl;
+      enabled-hash = refl;
+      enabled-time = refl;
+      enabled-kept = refl;
+      enabled-kept-last = refl;
+      enabled-old = refl;
+      enabled-ahead = refl;
+      enabled-other = refl;
+      enabled-reserved-one = refl;
+      enabled-reserved-two = refl;
+      enabled-reserved-three = refl;
+      enforced-ignored = refl;
+      enforced-absent = refl;
+      enforced-client-only = refl;
+      enforced-method = refl;
+      enforced-hash = refl;
+      enforced-time = refl;
+      enforced-kept = refl;
+      enforced-old = refl;
+      enforced-other = refl;
+      no-question-client-only = refl;
+      no-question-enabled = refl;
+      no-question-absent = refl;
+      no-question-bad = refl;
+      no-question-good = refl;
+      no-question-disabled = refl;
+    }
+
+pub options-hold : OptionsHold
+unfolding freshRefusal keptRefusal freshOption freshServer freshFront keptOption writtenBody isAddress s1 sameRun secretOf sipHash24Bytes sipHash24 finalized absorbed compressed initialized lastWord wordAt rounds sipRound rotl64 leNumber leBytes beBytes printed
+options-hold =
+    record {
+      room = refl;
+      no-room = refl;
+      no-address = refl;
+      neither = refl;
+      kept-room = refl;
+      kept-no-room = refl;
+      kept-short = refl;
+      kept-long = refl;
+      kept-neither = refl;
+      fresh = refl;
+      kept = refl;
+      stays = refl;
+      back = refl;
+      back-short = refl;
+      back-head-1 = refl;
+      back-head-2 = refl;
+      back-head-3 = refl;
+      back-head-4 = refl;
+      back-empty = refl;
+    }

@@ -1,0 +1,204 @@
+-- Cases that pin the definitions beside the P cases: each reason, each refusal, how many secrets are held, ages, each cell of the reply table, and what is
+-- written and read back. The secret, the address and the cookie are those of P1; other hashes are what OpenSSL's SIPHASH gives. Assumes nothing.
+use Prim.Native.Nat.{ℕ, _+_, _^_}
+use mathlib.Core.Path.{_≡_}
+use mathlib.Core.List.{List, [], _∷_, _++_}
+use lib.IntN.{pos, negsuc}
+use lib.ListN.{take, drop, replicate}
+use Rattle.octets.specs.Numbers.{printed}
+use Rattle.secret.specs.declared.Secret.{Secret}
+use Rattle.secret.specs.declared.Secrets.{Secrets}
+use Rattle.secret.specs.declared.Secrets.the-variants.{One, Two}
+use Rattle.secret.specs.Secret.{secretOf}
+use Rattle.cookie.specs.CookieOption.{freshOption, freshRefusal, keptOption, keptRefusal, outputAfter, writtenBody}
+use Rattle.cookie.specs.PCases.{s1}
+use Rattle.cookie.specs.ReplyTable.{Owed, _carrying_, replyOwed}
+use Rattle.cookie.specs.ReplyTable.Sent.{serve, truncate, error}
+use Rattle.cookie.specs.Serial.{age}
+use Rattle.cookie.specs.ServerCookie.{Answer, sipHashMethod, judgement}
+use Rattle.cookie.specs.ServerCookie.Answer.{refused, found}
+use Rattle.cookie.specs.ServerCookie.Finding.{ignored, absent, clientOnly, bad, good}
+use Rattle.cookie.specs.declared.Carried.the-variants.{Nothing, Fresh, Kept}
+use Rattle.cookie.specs.declared.Mode.{Mode}
+use Rattle.cookie.specs.declared.Mode.the-variants.{Disabled, Enabled, Enforced}
+use Rattle.cookie.specs.declared.Which.the-variants.{Generating, Other}
+
+-- P1's address, cookie and second; another secret; sixteen zero bytes
+abbrev pub address : List ℕ
+address = printed 4 0xc6336464
+
+abbrev pub cookie : List ℕ
+cookie = printed 24 0x2464c4abcf10c957010000005cf79f111f8130c3eee29480
+
+abbrev pub second : ℕ
+second = 0x5cf79f11
+
+abbrev pub another : Secret
+another = secretOf (printed 16 0xdd3bdf9344b678b185a6f5cb60fca715)
+
+abbrev pub zeros : Secret
+zeros = secretOf (printed 16 0)
+
+-- the answer to a body, in mode Enabled
+abbrev pub to : Secrets → ℕ → List ℕ → Answer
+to secrets clock body = judgement sipHashMethod Enabled secrets clock address body
+
+-- the answer in a mode to an address and a body
+abbrev pub from : Mode → List ℕ → List ℕ → Answer
+from mode where′ body = judgement sipHashMethod mode (One s1) second where′ body
+
+-- n bytes, all 7
+abbrev pub sevens : ℕ → List ℕ
+sevens n = replicate n 7
+
+-- the reasons
+pub record ReasonsHold : Type 0 where
+  -- nothing amiss
+  pub good-here : to (One s1) second cookie ≡ found (good (pos 0) Generating)
+  -- method: the version or the length, with the hash right under that version
+  pub version-0 : to (One s1) second (printed 24 0x2464c4abcf10c957000000005cf79f1129b715bd0a88999c) ≡ found (bad 1)
+  pub version-2 : to (One s1) second (printed 24 0x2464c4abcf10c957020000005cf79f116187d0e51e7646e7) ≡ found (bad 1)
+  pub version-240 : to (One s1) second (printed 24 0x2464c4abcf10c957f00000005cf79f114da1e5af928a7ccf) ≡ found (bad 1)
+  pub shorter : to (One s1) second (take 23 cookie) ≡ found (bad 1)
+  pub longer : to (One s1) second (cookie ++ (0 ∷ [])) ≡ found (bad 1)
+  pub least : to (One s1) second (take 16 cookie) ≡ found (bad 1)
+  pub most : to (One s1) second (cookie ++ take 16 cookie) ≡ found (bad 1)
+  -- hash: any byte that is hashed, any byte of the hash, the address, the secret
+  pub client-differs : to (One s1) second (printed 24 0x2564c4abcf10c957010000005cf79f111f8130c3eee29480) ≡ found (bad 2)
+  pub reserved-differs : to (One s1) second (printed 24 0x2464c4abcf10c957010000015cf79f111f8130c3eee29480) ≡ found (bad 2)
+  pub time-differs : to (One s1) second (printed 24 0x2464c4abcf10c957010000005cf79f101f8130c3eee29480) ≡ found (bad 2)
+  pub first-of-hash : to (One s1) second (printed 24 0x2464c4abcf10c957010000005cf79f111e8130c3eee29480) ≡ found (bad 2)
+  pub last-of-hash : to (One s1) second (printed 24 0x2464c4abcf10c957010000005cf79f111f8130c3eee29481) ≡ found (bad 2)
+  pub address-differs : from Enabled (printed 4 0xc6336465) cookie ≡ found (bad 2)
+  pub six : from Enabled (printed 16 0x20010db80220000159ded0f4876982b8) (printed 24 0x2464c4abcf10c957010000005cf79f11ece513b801b80286) ≡ found (good (pos 0) Generating)
+  pub six-differs : from Enabled (printed 16 0x20010db80220000159ded0f4876982b9) (printed 24 0x2464c4abcf10c957010000005cf79f11ece513b801b80286) ≡ found (bad 2)
+  pub secret-differs : to (One another) second cookie ≡ found (bad 2)
+  -- reserved bytes are hashed and never tested
+  pub reserved-one : to (One s1) second (printed 24 0x2464c4abcf10c957010100005cf79f116d707c989046e3c9) ≡ found (good (pos 0) Generating)
+  pub reserved-two : to (One s1) second (printed 24 0x2464c4abcf10c957010001005cf79f114f8c59f70d755fd1) ≡ found (good (pos 0) Generating)
+  pub reserved-three : to (One s1) second (printed 24 0x2464c4abcf10c957010000015cf79f11737c77e34ce6b548) ≡ found (good (pos 0) Generating)
+  -- time
+  pub too-old : to (One s1) (second + 3601) cookie ≡ found (bad 3)
+  pub too-new : to (One s1) 0x5cf79de4 cookie ≡ found (bad 3)
+  -- the first failing step names the reason
+  pub method-before-hash : to (One another) second (printed 24 0x2464c4abcf10c957000000005cf79f111f8130c3eee29480) ≡ found (bad 1)
+  pub hash-before-time : to (One another) (second + 3601) cookie ≡ found (bad 2)
+  pub method-before-time : to (One s1) (second + 3601) (printed 24 0x2464c4abcf10c957020000005cf79f116187d0e51e7646e7) ≡ found (bad 1)
+
+-- how many secrets are held
+pub record SecretsHold : Type 0 where
+  -- one is held: no other matches, not even sixteen zero bytes
+  pub none-other : to (One s1) second (printed 24 0x2464c4abcf10c957010000005cf79f11f55a65b866398d20) ≡ found (bad 2)
+  pub zeros-held : to (One zeros) second (printed 24 0x2464c4abcf10c957010000005cf79f11f55a65b866398d20) ≡ found (good (pos 0) Generating)
+  pub zeros-other : to (Two s1 zeros) second (printed 24 0x2464c4abcf10c957010000005cf79f11f55a65b866398d20) ≡ found (good (pos 0) Other)
+  -- two are held: the generating one is tried first, the other only where it does not match
+  pub first-of-two : to (Two s1 another) second cookie ≡ found (good (pos 0) Generating)
+  pub second-of-two : to (Two another s1) second cookie ≡ found (good (pos 0) Other)
+  pub neither-of-two : to (Two another zeros) second cookie ≡ found (bad 2)
+  pub both : to (Two s1 s1) second cookie ≡ found (good (pos 0) Generating)
+  pub first-too-old : to (Two s1 s1) (second + 3601) cookie ≡ found (bad 3)
+  pub second-too-old : to (Two another s1) (second + 3601) cookie ≡ found (bad 3)
+
+-- the refusals 2 and 10, and mode Disabled
+pub record RefusalsHold : Type 0 where
+  -- a legal length: 8, or 16 to 40
+  pub bytes-0 : from Enabled address (take 0 (cookie ++ cookie)) ≡ refused 10
+  pub bytes-7 : from Enabled address (take 7 (cookie ++ cookie)) ≡ refused 10
+  pub bytes-9 : from Enabled address (take 9 (cookie ++ cookie)) ≡ refused 10
+  pub bytes-15 : from Enabled address (take 15 (cookie ++ cookie)) ≡ refused 10
+  pub bytes-41 : from Enabled address (take 41 (cookie ++ cookie)) ≡ refused 10
+  pub bytes-8 : from Enabled address (take 8 cookie) ≡ found clientOnly
+  pub bytes-16 : from Enforced address (take 16 cookie) ≡ found (bad 1)
+  pub bytes-40 : from Enforced address (take 40 (cookie ++ cookie)) ≡ found (bad 1)
+  pub enforced-15 : from Enforced address (take 15 cookie) ≡ refused 10
+  -- an address: 4 or 16 bytes, in every mode, and before the body
+  pub address-0 : from Enabled (sevens 0) cookie ≡ refused 2
+  pub address-3 : from Enabled (sevens 3) cookie ≡ refused 2
+  pub address-5 : from Enabled (sevens 5) cookie ≡ refused 2
+  pub address-15 : from Enabled (sevens 15) cookie ≡ refused 2
+  pub address-17 : from Enabled (sevens 17) cookie ≡ refused 2
+  pub address-enforced : from Enforced (sevens 5) cookie ≡ refused 2
+  pub address-disabled : from Disabled (sevens 5) cookie ≡ refused 2
+  pub address-first : from Enabled (sevens 5) (take 7 cookie) ≡ refused 2
+  -- mode Disabled looks at no body
+  pub disabled-cookie : from Disabled address cookie ≡ found ignored
+  pub disabled-body : from Disabled address (take 7 cookie) ≡ found ignored
+  pub disabled-six : from Disabled (sevens 16) [] ≡ found ignored
+
+-- ages
+pub record AgesHold : Type 0 where
+  -- either side of half the circle, and round its end
+  pub same : age 5 5 ≡ pos 0
+  pub later : age 6 5 ≡ pos 1
+  pub sooner : age 5 6 ≡ negsuc 0
+  pub furthest-old : age (2 ^ 31 + 4) 5 ≡ pos 2147483647
+  pub furthest-new : age (2 ^ 31 + 5) 5 ≡ negsuc 2147483647
+  pub round-old : age 0 0xffffffff ≡ pos 1
+  pub round-new : age 0xffffffff 0 ≡ negsuc 0
+  pub p3 : age 0x5cf7a9ac 0x5cf78f71 ≡ pos 6715
+
+-- each cell of the reply table
+pub record RepliesHold : Type 0 where
+  -- Disabled: served with no option, whatever came
+  pub disabled-ignored : replyOwed Disabled 1 ignored cookie ≡ serve carrying Nothing
+  pub disabled-absent : replyOwed Disabled 1 absent cookie ≡ serve carrying Nothing
+  pub disabled-client-only : replyOwed Disabled 1 clientOnly cookie ≡ serve carrying Nothing
+  pub disabled-bad : replyOwed Disabled 1 (bad 2) cookie ≡ serve carrying Nothing
+  pub disabled-good : replyOwed Disabled 1 (good (pos 0) Generating) cookie ≡ serve carrying Nothing
+  -- Enabled
+  pub enabled-ignored : replyOwed Enabled 1 ignored cookie ≡ serve carrying Nothing
+  pub enabled-absent : replyOwed Enabled 1 absent [] ≡ serve carrying Nothing
+  pub enabled-client-only : replyOwed Enabled 1 clientOnly (take 8 cookie) ≡ serve carrying Fresh
+  pub enabled-method : replyOwed Enabled 1 (bad 1) cookie ≡ error 23 carrying Fresh
+  pub enabled-hash : replyOwed Enabled 1 (bad 2) cookie ≡ error 23 carrying Fresh
+  pub enabled-time : replyOwed Enabled 1 (bad 3) cookie ≡ error 23 carrying Fresh
+  pub enabled-kept : replyOwed Enabled 1 (good (pos 0) Generating) cookie ≡ serve carrying Kept
+  pub enabled-kept-last : replyOwed Enabled 1 (good (pos 1800) Generating) cookie ≡ serve carrying Kept
+  pub enabled-old : replyOwed Enabled 1 (good (pos 1801) Generating) cookie ≡ serve carrying Fresh
+  pub enabled-ahead : replyOwed Enabled 1 (good (negsuc 0) Generating) cookie ≡ serve carrying Fresh
+  pub enabled-other : replyOwed Enabled 1 (good (pos 0) Other) cookie ≡ serve carrying Fresh
+  pub enabled-reserved-one : replyOwed Enabled 1 (good (pos 0) Generating) (printed 24 0x2464c4abcf10c957010100005cf79f116d707c989046e3c9) ≡ serve carrying Fresh
+  pub enabled-reserved-two : replyOwed Enabled 1 (good (pos 0) Generating) (printed 24 0x2464c4abcf10c957010001005cf79f114f8c59f70d755fd1) ≡ serve carrying Fresh
+  pub enabled-reserved-three : replyOwed Enabled 1 (good (pos 0) Generating) (printed 24 0x2464c4abcf10c957010000015cf79f11737c77e34ce6b548) ≡ serve carrying Fresh
+  -- Enforced
+  pub enforced-ignored : replyOwed Enforced 1 ignored cookie ≡ serve carrying Nothing
+  pub enforced-absent : replyOwed Enforced 1 absent [] ≡ truncate carrying Nothing
+  pub enforced-client-only : replyOwed Enforced 1 clientOnly (take 8 cookie) ≡ error 23 carrying Fresh
+  pub enforced-method : replyOwed Enforced 1 (bad 1) cookie ≡ error 23 carrying Fresh
+  pub enforced-hash : replyOwed Enforced 1 (bad 2) cookie ≡ error 23 carrying Fresh
+  pub enforced-time : replyOwed Enforced 1 (bad 3) cookie ≡ error 23 carrying Fresh
+  pub enforced-kept : replyOwed Enforced 1 (good (pos 1800) Generating) cookie ≡ serve carrying Kept
+  pub enforced-old : replyOwed Enforced 1 (good (pos 1801) Generating) cookie ≡ serve carrying Fresh
+  pub enforced-other : replyOwed Enforced 1 (good (pos 0) Other) cookie ≡ serve carrying Fresh
+  -- QDCOUNT 0 changes Client only alone
+  pub no-question-client-only : replyOwed Enforced 0 clientOnly (take 8 cookie) ≡ serve carrying Fresh
+  pub no-question-enabled : replyOwed Enabled 0 clientOnly (take 8 cookie) ≡ serve carrying Fresh
+  pub no-question-absent : replyOwed Enforced 0 absent [] ≡ truncate carrying Nothing
+  pub no-question-bad : replyOwed Enforced 0 (bad 2) cookie ≡ error 23 carrying Fresh
+  pub no-question-good : replyOwed Enforced 0 (good (pos 0) Generating) cookie ≡ serve carrying Kept
+  pub no-question-disabled : replyOwed Disabled 0 clientOnly (take 8 cookie) ≡ serve carrying Nothing
+
+-- options written and read back
+pub record OptionsHold : Type 0 where
+  -- 1 before 2, and 1 before 10
+  pub room : freshRefusal (sevens 28) address ≡ 0
+  pub no-room : freshRefusal (sevens 27) address ≡ 1
+  pub no-address : freshRefusal (sevens 28) (sevens 5) ≡ 2
+  pub neither : freshRefusal (sevens 27) (sevens 5) ≡ 1
+  pub kept-room : keptRefusal (sevens 28) cookie ≡ 0
+  pub kept-no-room : keptRefusal (sevens 27) cookie ≡ 1
+  pub kept-short : keptRefusal (sevens 28) (take 23 cookie) ≡ 10
+  pub kept-long : keptRefusal (sevens 28) (cookie ++ (0 ∷ [])) ≡ 10
+  pub kept-neither : keptRefusal (sevens 27) (take 23 cookie) ≡ 1
+  -- 28 bytes are written, those beyond stay, and on refusal all stay
+  pub fresh : outputAfter 0 (freshOption sipHashMethod s1 second address (take 8 cookie)) (sevens 30) ≡ printed 30 0x000a00182464c4abcf10c957010000005cf79f111f8130c3eee294800707
+  pub kept : outputAfter 0 (keptOption cookie) (sevens 30) ≡ printed 30 0x000a00182464c4abcf10c957010000005cf79f111f8130c3eee294800707
+  pub stays : outputAfter 2 (keptOption cookie) (sevens 30) ≡ sevens 30
+  -- read back: the whole head is compared, and 28 bytes must be there
+  pub back : writtenBody (printed 30 0x000a00182464c4abcf10c957010000005cf79f111f8130c3eee294800707) ≡ cookie
+  pub back-short : writtenBody (printed 27 0x000a00182464c4abcf10c957010000005cf79f111f8130c3eee294) ≡ []
+  pub back-head-1 : writtenBody (printed 28 0x010a00182464c4abcf10c957010000005cf79f111f8130c3eee29480) ≡ []
+  pub back-head-2 : writtenBody (printed 28 0x000b00182464c4abcf10c957010000005cf79f111f8130c3eee29480) ≡ []
+  pub back-head-3 : writtenBody (printed 28 0x000a01182464c4abcf10c957010000005cf79f111f8130c3eee29480) ≡ []
+  pub back-head-4 : writtenBody (printed 28 0x000a00172464c4abcf10c957010000005cf79f111f8130c3eee29480) ≡ []
+  pub back-empty : writtenBody [] ≡ []
