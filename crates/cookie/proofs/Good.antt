@@ -18,7 +18,7 @@ use Rattle.secret.specs.declared.Secret.{Secret}
 use Rattle.secret.specs.declared.Secrets.{Secrets}
 use Rattle.secret.specs.Secrets.{generatingOf, otherOf}
 use Rattle.cookie.proofs.BodyLaws.{judge-8, judge-other, judge-24, judge-matching}
-use Rattle.cookie.proofs.ServerLaws.{is-between}
+use Rattle.cookie.proofs.MessageLaws.{is-between}
 use Rattle.cookie.specs.Claims.{HashedUnder, MatchedBy, IsGood, GoodExactlyWhen}
 use Rattle.cookie.specs.Serial.{age}
 use Rattle.cookie.specs.ServerCookie.{CookieMethod, Finding, Answer, matches, matchingOther, matching, isTimely, byTime, byHash, judgeBody, verdict, isDisabled, isAddress, isBody, checkingRefusal, answer, judgement}

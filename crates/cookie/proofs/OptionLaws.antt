@@ -2,20 +2,20 @@
 use mathlib.Core.Path.{_≡_, refl, sym, ap, ap₂, _∙_}
 use mathlib.Core.Bool.{Bool, true, false, not, cond, _&&_}
 use mathlib.Core.List.{List, [], _∷_, _++_, append-assoc}
-use Prim.Native.Nat.{ℕ, suc, _+_, _-_, _≤_, _<_}
+use Prim.Native.Nat.{ℕ, zero, suc, _+_, _%_, _≤_, _<_}
 use native.Mathlib.Nat.{zero-add}
 use native.Mathlib.Omega.{arith}
 use borrow.Author.Tests.{eq-eqb, ne-eqb, lt-ltb, le-ltb, le-leb, lt-leb}
 use lib.Dec.{eqb, ltb, leb}
-use lib.ListN.{length, take, drop, length-append, length-take}
-use lib.Seq.{drop-at, take-at, take-append-le, take-take}
-use Rattle.octets.specs.Numbers.{beBytes}
+use lib.ListN.{length, take, drop, getD, length-append}
+use lib.Seq.{drop-drop, take-add, take-all}
+use Rattle.octets.specs.Numbers.{leNumber, leBytes, beBytes}
 use Rattle.octets.specs.Runs.{sameRun, fits, written}
-use Rattle.octets.proofs.NumberLaws.{length-beBytes, length-leBytes}
-use Rattle.octets.proofs.RunLaws.{written-whole, written-front, written-next}
+use Rattle.octets.proofs.NumberLaws.{length-leBytes, le-again}
+use Rattle.octets.proofs.RunLaws.{written-next}
 use Rattle.secret.specs.declared.Secret.{Secret}
 use Rattle.siphash.specs.SipHash.{sipHash24, sipHash24Bytes}
-use Rattle.cookie.proofs.ServerLaws.{not-true, not-false, address-short}
+use Rattle.cookie.proofs.ServerLaws.{not-true, not-false}
 use Rattle.cookie.specs.CookieOption.{optionHead, freshFront, freshServer, freshOption, freshRefusal, keptOption, keptRefusal, outputAfter, writtenBody}
 use Rattle.cookie.specs.ServerCookie.{CookieMethod, sipHashMethod, isAddress}
 
@@ -65,83 +65,86 @@ next-on output x y b c n e long room f =
     let place : n ≡ 0 + length x = omega arith in
     f ∙ ap₂ (λ (l : List ℕ) (k : ℕ). written l k y) e place ∙ written-next output 0 x y (omega arith)
 
--- bytes 4 to 19 of what was written
-written-part : (output part : List ℕ) → length part ≡ 16 → 20 ≤ length output → take 16 (drop 4 (written output 0 (optionHead ++ part))) ≡ part
-written-part output part long room =
-    let n20 : length (optionHead ++ part) ≡ 20 = omega (arith, length-append optionHead part) in
-    rw (at-front 20 output (optionHead ++ part) n20 room) (take-at part (drop 20 output) 16 long)
+-- the head and three words
+module _ (w0 w1 w2 : ℕ) (output a b c d x y z : List ℕ) (room : 28 ≤ length output)
+    (is-x : x ≡ leBytes 8 w0) (is-y : y ≡ leBytes 8 w1) (is-z : z ≡ leBytes 8 w2)
+    (head : a ≡ written output 0 optionHead) (next : b ≡ written a 4 x) (next′ : c ≡ written b 12 y) (next″ : d ≡ written c 20 z) where
+  pub words-done : d ≡ optionHead ++ (leBytes 8 w0 ++ (leBytes 8 w1 ++ leBytes 8 w2)) ++ drop 28 output
+  words-done =
+      let nx : length x ≡ 8 = ap length is-x ∙ length-leBytes 8 w0 in
+      let ny : length y ≡ 8 = ap length is-y ∙ length-leBytes 8 w1 in
+      let nz : length z ≡ 8 = ap length is-z ∙ length-leBytes 8 w2 in
+      let p = optionHead ++ x in
+      let q = p ++ y in
+      let r = q ++ z in
+      let np : length p ≡ 12 = omega (arith, length-append optionHead x) in
+      let nq : length q ≡ 20 = omega (arith, length-append p y) in
+      let nr : length r ≡ 28 = omega (arith, length-append q z) in
+      let bp = next-on output optionHead x a b 4 head refl (omega arith) next in
+      let cq = next-on output p y b c 12 bp np (omega arith) next′ in
+      let dr = next-on output q z c d 20 cq nq (omega arith) next″ in
+      let parts : r ≡ optionHead ++ (x ++ (y ++ z)) = append-assoc p y z ∙ append-assoc optionHead x (y ++ z) in
+      let words : optionHead ++ (x ++ (y ++ z)) ≡ optionHead ++ (leBytes 8 w0 ++ (leBytes 8 w1 ++ leBytes 8 w2)) = rw (is-x, is-y, is-z) refl in
+      dr ∙ at-front 28 output r nr room ∙ ap (λ (l : List ℕ). l ++ drop 28 output) (parts ∙ words)
 
-module _ (output body one two : List ℕ) (room : 28 ≤ length output) (long : length body ≡ 24)
-    (head : one ≡ written output 0 optionHead) (rest : two ≡ written one 4 body) where
+-- a kept option: the three words of the body
+module _ (output body two : List ℕ) (room : 28 ≤ length output) (long : length body ≡ 24) (w0 w1 w2 : ℕ)
+    (first-is : leBytes 8 w0 ≡ take 8 body) (second-is : leBytes 8 w1 ≡ take 8 (drop 8 body)) (third-is : leBytes 8 w2 ≡ take 8 (drop 16 body))
+    (done : two ≡ optionHead ++ (leBytes 8 w0 ++ (leBytes 8 w1 ++ leBytes 8 w2)) ++ drop 28 output) where
+  whole-body : leBytes 8 w0 ++ (leBytes 8 w1 ++ leBytes 8 w2) ≡ body
+  whole-body =
+      ap₂ (λ (x y : List ℕ). x ++ y) first-is (ap₂ (λ (x y : List ℕ). x ++ y) second-is (third-is ∙ ap (take 8) (sym (drop-drop 8 8 body))) ∙ sym (take-add 8 8 (drop 8 body)))
+      ∙ sym (take-add 8 16 body)
+      ∙ take-all 24 body (omega arith)
+
   pub kept-done : (0 ≡ keptRefusal output body) × (two ≡ outputAfter (keptRefusal output body) (keptOption body) output)
   unfolding keptRefusal keptOption
   kept-done =
-      let none : keptRefusal output body ≡ 0 = rw (le-ltb (length output) 28 room, eq-eqb (length body) 24 long) in
-      let whole : two ≡ written output 0 (optionHead ++ body) = next-on output optionHead body one two 4 head refl (omega arith) rest in
-      (sym none, whole ∙ at-front 28 output (optionHead ++ body) (omega (arith, length-append optionHead body)) room ∙ sym (ap (λ (k : ℕ). outputAfter k (keptOption body) output) none))
+      let none : keptRefusal output body ≡ 0 = rw (le-ltb (length output) 28 room, eq-eqb (length body) 24 long) in (
+        sym none,
+        done ∙ ap (λ (l : List ℕ). optionHead ++ l ++ drop 28 output) whole-body ∙ sym (ap (λ (k : ℕ). outputAfter k (keptOption body) output) none),
+      )
 
--- a fresh option up to its hash
-module _ (clock : ℕ) (output client bytes a b c d : List ℕ) (room : 28 ≤ length output) (long : length client ≡ 8) (is : bytes ≡ beBytes 4 clock)
-    (head : a ≡ written output 0 optionHead) (next : b ≡ written a 4 client) (next′ : c ≡ written b 12 (1 ∷ 0 ∷ 0 ∷ 0 ∷ []))
-    (next″ : d ≡ written c 16 bytes) where
-  pub front-done : d ≡ written output 0 (optionHead ++ (client ++ freshFront sipHashMethod clock))
-  unfolding freshFront
-  front-done =
-      let n4 : length bytes ≡ 4 = ap length is ∙ length-beBytes 4 clock in
-      let x = optionHead ++ client in
-      let y = x ++ (1 ∷ 0 ∷ 0 ∷ 0 ∷ []) in
-      let nx : length x ≡ 12 = omega (arith, length-append optionHead client) in
-      let ny : length y ≡ 16 = omega (arith, length-append x (1 ∷ 0 ∷ 0 ∷ 0 ∷ [])) in
-      let bx = next-on output optionHead client a b 4 head refl (omega arith) next in
-      let cy = next-on output x (1 ∷ 0 ∷ 0 ∷ 0 ∷ []) b c 12 bx nx (omega arith) next′ in
-      next-on output y bytes c d 16 cy ny (omega arith) next″
-      ∙ ap (written output 0) (append-assoc x (1 ∷ 0 ∷ 0 ∷ 0 ∷ []) bytes ∙ append-assoc optionHead client (1 ∷ 0 ∷ 0 ∷ 0 ∷ bytes) ∙ ap (λ (l : List ℕ). optionHead ++ (client ++ (1 ∷ 0 ∷ 0 ∷ 0 ∷ l))) is)
+-- bytes 0 to 7 of a fresh server cookie
+pub front-is : (clock w : ℕ) (b : List ℕ) → b ≡ beBytes 4 clock
+    → w ≡ leNumber (1 ∷ 0 ∷ 0 ∷ 0 ∷ getD b 0 0 ∷ getD b 1 0 ∷ getD b 2 0 ∷ getD b 3 0 ∷ [])
+    → leBytes 8 w ≡ freshFront sipHashMethod clock
+unfolding freshFront beBytes
+front-is clock w b is e = ap (leBytes 8) e ∙ rw is (le-again (1 ∷ 0 ∷ 0 ∷ 0 ∷ beBytes 4 clock) small)
+  where
+    small : (i : ℕ) → getD (1 ∷ 0 ∷ 0 ∷ 0 ∷ beBytes 4 clock) i 0 < 256
+    small zero = omega arith
+    small (suc zero) = omega arith
+    small (suc (suc zero)) = omega arith
+    small (suc (suc (suc zero))) = omega arith
+    small (suc (suc (suc (suc zero)))) = omega arith
+    small (suc (suc (suc (suc (suc zero))))) = omega arith
+    small (suc (suc (suc (suc (suc (suc zero)))))) = omega arith
+    small (suc (suc (suc (suc (suc (suc (suc zero))))))) = omega arith
+    small (suc (suc (suc (suc (suc (suc (suc (suc i)))))))) = omega arith
 
--- the whole of a fresh option
-module _ (output address client : List ℕ) (secret : Secret) (clock : ℕ) (room : 28 ≤ length output) (long : length client ≡ 8)
-    (t : Bool) (is-a : t ≡ isAddress address) (yes′ : not t ≡ false) where
-  abbrev part : List ℕ
-  part = client ++ freshFront sipHashMethod clock
+-- a fresh option
+module _ (output address client two : List ℕ) (secret : Secret) (clock : ℕ) (room : 28 ≤ length output) (long : length client ≡ 8)
+    (t : Bool) (is-a : t ≡ isAddress address) (yes′ : not t ≡ false) (w0 w1 hash : ℕ)
+    (first-is : leBytes 8 w0 ≡ take 8 client) (second-is : leBytes 8 w1 ≡ freshFront sipHashMethod clock)
+    (hashes : hash ≡ sipHash24 secret (leBytes 8 w0 ++ leBytes 8 w1 ++ address))
+    (done : two ≡ optionHead ++ (leBytes 8 w0 ++ (leBytes 8 w1 ++ leBytes 8 hash)) ++ drop 28 output) where
+  client-is : leBytes 8 w0 ≡ client
+  client-is = first-is ∙ take-all 8 client (omega arith)
 
-  length-part : length part ≡ 16
-  unfolding freshFront
-  length-part = omega (arith, length-append client (freshFront sipHashMethod clock), length-beBytes 4 clock)
+  option-is : optionHead ++ (leBytes 8 w0 ++ (leBytes 8 w1 ++ leBytes 8 hash)) ≡ freshOption sipHashMethod secret clock address client
+  unfolding freshOption freshServer sipHash24Bytes
+  option-is = rw (hashes, client-is, second-is) refl
 
-  module _ (one : List ℕ) (front : one ≡ written output 0 (optionHead ++ part)) where
-    -- the bytes that are hashed are those that were written
-    cookies-are : take 16 (drop 4 one) ≡ part
-    cookies-are = rw front (written-part output part length-part (omega arith))
-
-    pub room-to-lay : length (take 16 (drop 4 one)) + length address ≤ 32
-    room-to-lay = omega (arith, ap length cookies-are, length-part, address-short address t is-a yes′)
-
-    module _ (buffer : List ℕ) (end : ℕ) (laid : take end buffer ≡ take 16 (drop 4 one) ++ address)
-        (hash two : List ℕ) (hashes : hash ≡ sipHash24Bytes secret (take (end - 0) buffer)) (rest : two ≡ written one 20 hash) where
-      hash-is : hash ≡ sipHash24Bytes secret (part ++ address)
-      hash-is = let same-end : end - 0 ≡ end = omega arith in hashes ∙ ap (sipHash24Bytes secret) (rw same-end (laid ∙ ap (λ (l : List ℕ). l ++ address) cookies-are))
-
-      length-hash : length hash ≡ 8
-      unfolding sipHash24Bytes
-      length-hash = ap length hash-is ∙ length-leBytes 8 (sipHash24 secret (part ++ address))
-
-      option-is : (optionHead ++ part) ++ hash ≡ freshOption sipHashMethod secret clock address client
-      unfolding freshOption freshServer
-      option-is =
-          append-assoc optionHead part hash
-          ∙ ap (λ (l : List ℕ). optionHead ++ l) (append-assoc client (freshFront sipHashMethod clock) hash ∙ ap (λ (l : List ℕ). client ++ (freshFront sipHashMethod clock ++ l)) hash-is)
-
-      pub fresh-done : (0 ≡ freshRefusal output address)
-          × (two ≡ outputAfter (freshRefusal output address) (freshOption sipHashMethod secret clock address client) output)
-      unfolding freshRefusal
-      fresh-done =
-          let none : freshRefusal output address ≡ 0 = rw (le-ltb (length output) 28 room, ← is-a, not-false t yes′) in
-          let n20 : length (optionHead ++ part) ≡ 20 = omega (arith, length-append optionHead part, length-part) in
-          let n28 : length ((optionHead ++ part) ++ hash) ≡ 28 = omega (arith, length-append (optionHead ++ part) hash, n20, length-hash) in
-          let whole : two ≡ written output 0 ((optionHead ++ part) ++ hash) = next-on output (optionHead ++ part) hash one two 20 front n20 (omega (arith, length-hash)) rest in (
-            sym none,
-            whole ∙ at-front 28 output ((optionHead ++ part) ++ hash) n28 room ∙ ap (λ (l : List ℕ). l ++ drop 28 output) option-is
-                ∙ sym (ap (λ (k : ℕ). outputAfter k (freshOption sipHashMethod secret clock address client) output) none),
-          )
+  pub fresh-done : (0 ≡ freshRefusal output address)
+      × (two ≡ outputAfter (freshRefusal output address) (freshOption sipHashMethod secret clock address client) output)
+  unfolding freshRefusal
+  fresh-done =
+      let none : freshRefusal output address ≡ 0 = rw (le-ltb (length output) 28 room, ← is-a, not-false t yes′) in (
+        sym none,
+        done ∙ ap (λ (l : List ℕ). l ++ drop 28 output) option-is
+            ∙ sym (ap (λ (k : ℕ). outputAfter k (freshOption sipHashMethod secret clock address client) output) none),
+      )
 
 -- ---- read back
 

@@ -1,5 +1,5 @@
--- What the proofs of server_cookie and message cite, one law for each answer. Assumes nothing.
-use mathlib.Core.Path.{_≡_, refl, sym, ap, _∙_}
+-- What the proofs of server_cookie cite, one law for each answer. Assumes nothing.
+use mathlib.Core.Path.{_≡_, refl, sym, ap, ap₂, _∙_}
 use mathlib.Core.Bool.{Bool, true, false}
 use mathlib.Core.List.{List, [], _∷_, _++_}
 use Prim.Native.Nat.{ℕ, _+_, _-_, _≤_, _<_}
@@ -15,6 +15,7 @@ use mathlib.Core.Option.{Option, none, some}
 use lib.Dec.{ltb}
 use lib.IntN.{ℤ, pos, negsuc}
 use lib.ListN.{take, drop, getD}
+use lib.Seq.{take-add}
 use lib.Signed.{leZ, ltZ, mag}
 use mir.Syntax.{w8, w32, w64}
 use mir.Val.{toZ, ofZ, Fits, SFits}
@@ -41,37 +42,6 @@ use Rattle.cookie.specs.declared.Mode.the-variants.{Disabled, Enabled, E
 use Rattle.cookie.specs.declared.Verdict.{Verdict}
 use Rattle.cookie.specs.declared.Which.{Which}
 use Rattle.cookie.specs.declared.Which.the-variants.{Generating, Other}
-
--- ---- lengths
-
-module _ (s : List ℕ) where
-  pub is-4 : length s ≡ 4 → true ≡ isAddress s
-  unfolding isAddress
-  is-4 e = rw (eq-eqb (length s) 4 e)
-
-  pub is-16 : length s ≡ 16 → true ≡ isAddress s
-  unfolding isAddress
-  is-16 e = rw e
-
-  pub is-neither : (length s ≡ 4 → ⊥) → (length s ≡ 16 → ⊥) → false ≡ isAddress s
-  unfolding isAddress
-  is-neither n4 n16 = rw (ne-eqb (length s) 4 n4, ne-eqb (length s) 16 n16)
-
-  pub is-8 : length s ≡ 8 → true ≡ isBody s
-  unfolding isBody
-  is-8 e = rw e
-
-  pub is-between : (length s ≡ 8 → ⊥) → 16 ≤ length s → length s < 41 → true ≡ isBody s
-  unfolding isBody
-  is-between n8 low high = rw (ne-eqb (length s) 8 n8, le-leb 16 (length s) low, le-leb (length s) 40 (omega arith))
-
-  pub is-short : (length s ≡ 8 → ⊥) → length s < 16 → false ≡ isBody s
-  unfolding isBody
-  is-short n8 low = rw (ne-eqb (length s) 8 n8, lt-leb 16 (length s) low)
-
-  pub is-long : (length s ≡ 8 → ⊥) → 41 ≤ length s → false ≡ isBody s
-  unfolding isBody
-  is-long n8 high = rw (ne-eqb (length s) 8 n8, le-leb 16 (length s) (omega arith), lt-leb (length s) 40 (omega arith))
 
 -- ---- step 3
 
@@ -135,13 +105,6 @@ pub hash-is : (secret : Secret) (message : List ℕ) (x hash : ℕ) → Fits w64
 unfolding matches sipHash24Bytes
 hash-is secret message x hash fx fh e = same-word x hash fx fh ∙ ap (λ (n : ℕ). sameRun (leBytes 8 hash) (leBytes 8 n)) e
 
--- eight bytes read as a word are the bytes of that word
-pub field-is : (s : List ℕ) (word : ℕ) → 24 ≤ length s → ((i : ℕ) → Fits w8 (getD s i 0))
-    → word ≡ leNumber (getD s 16 0 ∷ getD s 17 0 ∷ getD s 18 0 ∷ getD s 19 0 ∷ getD s 20 0 ∷ getD s 21 0 ∷ getD s 22 0 ∷ getD s 23 0 ∷ [])
-    → leBytes 8 word ≡ take 8 (drop 16 s)
-field-is s word long bytes e =
-    ap (leBytes 8) (e ∙ ap leNumber (part-from 8 0 16 s long)) ∙ part-again 8 16 s long (λ i. bytes i .fits)
-
 -- the secrets in their order
 module _ (m : CookieMethod) (message hash : List ℕ) (secrets : Secrets) (g : Secret) (t : Bool)
     (first-is : g ≡ generatingOf secrets) (told : t ≡ matches m message hash g) where
@@ -162,29 +125,15 @@ module _ (m : CookieMethod) (message hash : List ℕ) (secrets : Secrets) (g : S
     unfolding matching
     match-neither no″ = rw (← first-is, ← told, no′, two, ← told′, no″)
 
--- ---- what is hashed
-
--- two runs put one after the other at the front of a buffer
-pub lay-is : (buffer x y one two : List ℕ) → length x + length y ≤ length buffer
-    → one ≡ written buffer 0 x → two ≡ written one (length x) y
-    → (length x + length y ≤ length two) × (take (length x + length y) two ≡ x ++ y)
-lay-is buffer x y one two within e f =
-    let whole : two ≡ written buffer 0 (x ++ y) =
-    f ∙ ap (λ (b : List ℕ). written b (length x) y) e ∙ (rw (zero-add (length x)) at (written-next buffer 0 x y (omega arith))) in
-    let long : length (x ++ y) ≡ length x + length y = length-append x y in
-    let front : take (length (x ++ y)) (written buffer 0 (x ++ y)) ≡ x ++ y = rw (zero-add (length (x ++ y))) at (written-front buffer 0 (x ++ y) (omega arith)) in
-    (rw whole (omega (arith, length-written buffer 0 (x ++ y))), rw (whole, ← long) front)
-
 -- ---- the verdict
 
 module _ (secrets : Secrets) (clock : ℕ) (address body : List ℕ) (long : length body ≡ 24) (version : getD body 8 0 ≡ 1)
-    (buffer : List ℕ) (end : ℕ) (laid : take end buffer ≡ take 16 body ++ address) (hash : ℕ) (field : leBytes 8 hash ≡ take 8 (drop 16 body))
-    (v : Match) (told : matchOf v ≡ matching sipHashMethod (take (end - 0) buffer) (leBytes 8 hash) secrets) where
+    (w0 w1 hash : ℕ) (first-is : leBytes 8 w0 ≡ take 8 body) (second-is : leBytes 8 w1 ≡ take 8 (drop 8 body)) (third-is : leBytes 8 hash ≡ take 8 (drop 16 body))
+    (v : Match) (told : matchOf v ≡ matching sipHashMethod (leBytes 8 w0 ++ leBytes 8 w1 ++ address) (leBytes 8 hash) secrets) where
   by-match : byHash (age clock (be32At body 12)) (matchOf v) ≡ judgeBody sipHashMethod secrets clock address body
   by-match =
-      let same-end : end - 0 ≡ end = omega arith in
-      let whole : take (end - 0) buffer ≡ take 16 body ++ address = rw same-end laid in
-      rw (told, whole, field) (sym (judge-matching sipHashMethod secrets clock address body long version))
+      let cookies : leBytes 8 w0 ++ leBytes 8 w1 ≡ take 16 body = ap₂ (λ (x y : List ℕ). x ++ y) first-is second-is ∙ sym (take-add 8 8 body) in
+      rw (told, cookies, third-is) (sym (judge-matching sipHashMethod secrets clock address body long version))
 
   pub judge-hash : v ≡ Nothing → bad 2 ≡ judgeBody sipHashMethod secrets clock address body
   judge-hash nothing = ap (λ (x : Match). byHash (age clock (be32At body 12)) (matchOf x)) (sym nothing) ∙ by-match
@@ -235,11 +184,6 @@ module _ (mode : Mode) (secrets : Secrets) (clock : ℕ) (address body : List �
       unfolding judgement checkingRefusal
       judge-found g v told = ap found (told ∙ judges mode (sym is-d ∙ f)) ∙ rw (← is-a, not-false a e, ← is-d, f, ← is-b, not-false b g)
 
--- an address is at most 16 bytes
-pub address-short : (address : List ℕ) (a : Bool) → a ≡ isAddress address → not a ≡ false → length address ≤ 16
-unfolding isAddress
-address-short address a is-a e = go (eqb (length address) 4) refl (sym is-a ∙ not-false a e)
-  where
-    go : (t : Bool) → eqb (length address) 4 ≡ t → (t || eqb (length address) 16) ≡ true → length address ≤ 16
-    go true q h = let z : length address ≡ 4 = eqb-true (length address) 4 q in omega arith
-    go false q h = let z : length address ≡ 16 = eqb-true (length address) 16 h in omega arith
+-- a body is judged only from an address
+pub is-address : (address : List ℕ) (a : Bool) → a ≡ isAddress address → not a ≡ false → isAddress address ≡ true
+is-address address a is-a e = sym is-a ∙ not-false a e

@@ -6,23 +6,31 @@ use secret::Secret;
 ghost use mathlib.Core.Path.{_≡_};
 ghost use mathlib.Core.List.{_++_};
 ghost use Prim.Native.Nat.{_≤_};
-ghost use lib.ListN.{length};
-ghost use Rattle.octets.specs.Runs.{written};
+ghost use lib.ListN.{length, drop};
+ghost use Rattle.octets.specs.Numbers.{leBytes};
 ghost use Rattle.cookie.specs.ServerCookie.{sipHashMethod};
 ghost use Rattle.cookie.specs.CookieOption.{writtenNumber, optionHead, freshFront, freshOption, freshRefusal, keptOption, keptRefusal, outputAfter, writtenBody};
 
 // Code 10 and length 24.
 const HEAD: [u8; 4] = *b"\x00\x0a\x00\x18";
 
-// Writes a fresh option up to its hash: head, client cookie, version 1, reserved zero, the clock.
-fn write_front(output: &mut [u8], clock: u32, client: &[u8; 8])
+// Writes the head and a body's three words.
+fn write_words(output: &mut [u8], w0: u64, w1: u64, w2: u64)
     requires { ⌜ 28 ≤ length (now output) ⌝ }
-    ensures { λ r. ⌜ (length (now (client .entry)) ≡ 8) × (now (output .exit) ≡ written (now (output .entry)) 0 (optionHead ++ (now (client .entry) ++ freshFront sipHashMethod clock))) ⌝ }
+    ensures { λ r. ⌜ now (output .exit) ≡ optionHead ++ (leBytes 8 w0 ++ (leBytes 8 w1 ++ leBytes 8 w2)) ++ drop 28 (now (output .entry)) ⌝ }
 {
     octets::put(output, 0, &HEAD);
-    octets::put(output, 4, client);
-    octets::put(output, 12, b"\x01\x00\x00\x00");
-    octets::put(output, 16, &octets::be32_bytes(clock));
+    octets::put(output, 4, &octets::le64_bytes(w0));
+    octets::put(output, 12, &octets::le64_bytes(w1));
+    octets::put(output, 20, &octets::le64_bytes(w2));
+}
+
+// Bytes 0 to 7 of a fresh server cookie as a word: version 1, reserved zero, the clock.
+fn front(clock: u32) -> u64
+    ensures { λ r. ⌜ leBytes 8 r ≡ freshFront sipHashMethod clock ⌝ }
+{
+    let b = octets::be32_bytes(clock);
+    octets::le64(1, 0, 0, 0, b[0], b[1], b[2], b[3])
 }
 
 // Writes a fresh option: the client cookie, and a server cookie made at the clock under the secret.
@@ -44,14 +52,9 @@ pub fn write_fresh(
     if !message::is_address(address) {
         return Written::Refused(Refusal::Address);
     }
-    write_front(output, clock, client);
-    let mut message = [0u8; 32];
-    let end = message::lay(&mut message, &output[4..20], address);
-    octets::put(
-        output,
-        20,
-        &siphash::siphash24_bytes(secret, &message[0..end]),
-    );
+    let w0 = message::word(client, 0);
+    let w1 = front(clock);
+    write_words(output, w0, w1, message::hash(secret, w0, w1, address));
     Written::Done
 }
 
@@ -68,8 +71,12 @@ pub fn write_kept(output: &mut [u8], body: &[u8]) -> Written
     if body.len() != 24 {
         return Written::Refused(Refusal::Body);
     }
-    octets::put(output, 0, &HEAD);
-    octets::put(output, 4, body);
+    write_words(
+        output,
+        message::word(body, 0),
+        message::word(body, 8),
+        message::word(body, 16),
+    );
     Written::Done
 }
 

@@ -9,11 +9,13 @@ use crate::message;
 use secret::Secret;
 use secret::Secrets;
 ghost use mathlib.Core.Path.{_≡_};
+ghost use mathlib.Core.Bool.{true};
+ghost use mathlib.Core.List.{_++_};
 ghost use Prim.Native.Nat.{_≤_};
-ghost use lib.ListN.{length, take, drop};
+ghost use lib.ListN.{length};
 ghost use Rattle.octets.specs.Numbers.{leBytes, be32At};
 ghost use Rattle.cookie.specs.Serial.{age};
-ghost use Rattle.cookie.specs.ServerCookie.{finding, answerOf, sipHashMethod, matchOf, matches, matching, byTime, judgeBody, judgement, isDisabled, isBody};
+ghost use Rattle.cookie.specs.ServerCookie.{finding, answerOf, sipHashMethod, matchOf, matches, matching, byTime, judgeBody, judgement, isDisabled, isAddress, isBody};
 
 // The secret that matches, if one does.
 enum Match {
@@ -53,35 +55,20 @@ fn timestamp(body: &[u8]) -> u32
     octets::be32(body[12], body[13], body[14], body[15])
 }
 
-// Bytes 16 to 23 of a body as a word, the lowest first, as SipHash-2-4 gives it.
-fn hash_field(body: &[u8]) -> u64
-    requires { ⌜ 24 ≤ length (now body) ⌝ }
-    ensures { λ r. ⌜ leBytes 8 r ≡ take 8 (drop 16 (now (body .entry))) ⌝ }
-{
-    octets::le64(
-        body[16],
-        body[17],
-        body[18],
-        body[19],
-        body[20],
-        body[21],
-        body[22],
-        body[23],
-    )
-}
-
 // Step 2 for one secret.
-fn has_hash(secret: Secret, message: &[u8], hash: u64) -> bool
-    ensures { λ r. ⌜ r ≡ matches sipHashMethod (now (message .entry)) (leBytes 8 hash) secret ⌝ }
+fn has_hash(secret: Secret, w0: u64, w1: u64, address: &[u8], hash: u64) -> bool
+    requires { ⌜ isAddress (now address) ≡ true ⌝ }
+    ensures { λ r. ⌜ r ≡ matches sipHashMethod (leBytes 8 w0 ++ leBytes 8 w1 ++ now (address .entry)) (leBytes 8 hash) secret ⌝ }
 {
-    siphash::siphash24(secret, message) == hash
+    message::hash(secret, w0, w1, address) == hash
 }
 
 // Step 2: the generating secret first, and the other only where that one does not match.
-fn matching(secrets: Secrets, message: &[u8], hash: u64) -> Match
-    ensures { λ r. ⌜ matchOf r ≡ matching sipHashMethod (now (message .entry)) (leBytes 8 hash) secrets ⌝ }
+fn matching(secrets: Secrets, w0: u64, w1: u64, address: &[u8], hash: u64) -> Match
+    requires { ⌜ isAddress (now address) ≡ true ⌝ }
+    ensures { λ r. ⌜ matchOf r ≡ matching sipHashMethod (leBytes 8 w0 ++ leBytes 8 w1 ++ now (address .entry)) (leBytes 8 hash) secrets ⌝ }
 {
-    if has_hash(secrets.generating(), message, hash) {
+    if has_hash(secrets.generating(), w0, w1, address, hash) {
         return Match::By(Which::Generating);
     }
     match secrets {
@@ -90,7 +77,7 @@ fn matching(secrets: Secrets, message: &[u8], hash: u64) -> Match
             generating: _,
             other,
         } => {
-            if has_hash(other, message, hash) {
+            if has_hash(other, w0, w1, address, hash) {
                 Match::By(Which::Other)
             } else {
                 Match::Nothing
@@ -101,16 +88,16 @@ fn matching(secrets: Secrets, message: &[u8], hash: u64) -> Match
 
 // The three steps on a body whose server cookie is 16 bytes.
 fn judge_server(secrets: Secrets, clock: u32, address: &[u8], body: &[u8]) -> Verdict
-    requires { ⌜ (length (now body) ≡ 24) × (length (now address) ≤ 16) ⌝ }
+    requires { ⌜ (length (now body) ≡ 24) × (isAddress (now address) ≡ true) ⌝ }
     ensures { λ r. ⌜ finding r ≡ judgeBody sipHashMethod secrets clock (now (address .entry)) (now (body .entry)) ⌝ }
 {
     if body[8] != 1 {
         return Verdict::Bad(Reason::Method);
     }
-    let mut message = [0u8; 32];
-    let end = message::lay(&mut message, &body[0..16], address);
-    let hash = hash_field(body);
-    match matching(secrets, &message[0..end], hash) {
+    let w0 = message::word(body, 0);
+    let w1 = message::word(body, 8);
+    let hash = message::word(body, 16);
+    match matching(secrets, w0, w1, address, hash) {
         Match::Nothing => Verdict::Bad(Reason::Hash),
         Match::By(secret) => by_time(serial_age(clock, timestamp(body)), secret),
     }
@@ -118,7 +105,7 @@ fn judge_server(secrets: Secrets, clock: u32, address: &[u8], body: &[u8]) -> Ve
 
 // The verdict outside mode Disabled.
 fn judge_body(secrets: Secrets, clock: u32, address: &[u8], body: &[u8]) -> Verdict
-    requires { ⌜ length (now address) ≤ 16 ⌝ }
+    requires { ⌜ isAddress (now address) ≡ true ⌝ }
     ensures { λ r. ⌜ finding r ≡ judgeBody sipHashMethod secrets clock (now (address .entry)) (now (body .entry)) ⌝ }
 {
     if body.len() == 8 {

@@ -18,6 +18,13 @@ pub fn le64(b0: u8, b1: u8, b2: u8, b3: u8, b4: u8, b5: u8, b6: u8, b7: u8) -> u
         + b7 as u64 * 0x100000000000000
 }
 
+// The number of four bytes, the lowest first.
+pub fn le32(b0: u8, b1: u8, b2: u8, b3: u8) -> u32
+    ensures { λ r. ⌜ r ≡ leNumber (b0 ∷ b1 ∷ b2 ∷ b3 ∷ []) ⌝ }
+{
+    b0 as u32 + b1 as u32 * 0x100 + b2 as u32 * 0x10000 + b3 as u32 * 0x1000000
+}
+
 // The eight bytes of a number, the lowest first.
 pub fn le64_bytes(x: u64) -> [u8; 8]
     ensures { λ r. ⌜ r ≡ leBytes 8 x ⌝ }

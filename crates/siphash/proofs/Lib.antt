@@ -1,3 +1,4 @@
+pub mod FixedLaws
 pub mod RotateLaws
 pub mod WordLaws
 pub mod Vectors

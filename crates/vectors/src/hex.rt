@@ -68,15 +68,29 @@ pub fn decode(text: &[u8], out: &mut [u8]) -> Decoded
     Decoded { ok: true, count: n }
 }
 
-// A space, the 16 digits of eight bytes and the line's end.
-pub fn line_end(bytes: [u8; 8]) -> [u8; 18] {
-    let mut line = [b' '; 18];
+// Decodes a field that may have any length up to 65,535 bytes.
+pub fn decode_part(text: &[u8], out: &mut [u8]) -> Decoded
+    ensures { λ r. ⌜ r .count ≤ length (now (out .exit)) ⌝ }
+{
+    if 131070 < text.len() {
+        return Decoded {
+            ok: false,
+            count: 0,
+        };
+    }
+    decode(text, out)
+}
+
+// The digits of up to 256 bytes, at the front.
+pub fn digits(bytes: &[u8]) -> [u8; 512]
+    requires { ⌜ length (now bytes) ≤ 256 ⌝ }
+{
+    let mut pairs = [b' '; 512];
     let mut i = 0;
-    while i < 8 {
-        line[1 + 2 * i] = glyph(bytes[i] / 16);
-        line[2 + 2 * i] = glyph(bytes[i] % 16);
+    while i < bytes.len() {
+        pairs[2 * i] = glyph(bytes[i] / 16);
+        pairs[2 * i + 1] = glyph(bytes[i] % 16);
         i += 1;
     }
-    line[17] = b'\n';
-    line
+    pairs
 }

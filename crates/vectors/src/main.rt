@@ -1,16 +1,30 @@
 // Runs the compiled code on vectors from standard input, one to a line, and prints each line again with what came of it.
 //
 //     siphash24 KEY MESSAGE    SipHash-2-4 of MESSAGE under KEY, 16 bytes: the hash, as its eight bytes
+//     judge MODE QDCOUNT GENERATING OTHER CLOCK ADDRESS BODY
+//                              a request's COOKIE body, judged. MODE is disabled, enabled or enforced, QDCOUNT 2 bytes,
+//                              GENERATING a secret of 16 bytes, OTHER another or `-`, CLOCK 4 bytes. A BODY `none` is a
+//                              request without a COOKIE option, whose ADDRESS is not looked at. The answer is `refused` and
+//                              document 01's number, or the verdict (a good one with its age and which secret matched),
+//                              what the reply is (serve, badcookie, truncate) and the option in it (none, fresh, kept)
+//     fresh OUTPUT SECRET CLOCK ADDRESS CLIENT
+//                              a fresh COOKIE option for the client cookie CLIENT, 8 bytes, written into a buffer that held
+//                              OUTPUT: the refusal, 0 for none, and the buffer afterwards
+//     kept OUTPUT BODY         a COOKIE body written likewise, as it came
+//     body BUFFER              the body of the COOKIE option that a buffer starts with
 //     # ..                     a comment, printed as it is, and so is an empty line
 //
-// Bytes are in hexadecimal, and `-` is none. Any other line is answered by `bad line` and its number; a line of more than
-// 262,143 bytes by `long line` and its number, and nothing after it is read.
+// Bytes are in hexadecimal, and `-` is none; numbers are big-endian. OUTPUT, ADDRESS, BODY and BUFFER have up to 65,535 bytes.
+// Any other line is answered by `bad line` and its number; a line of more than 262,143 bytes by `long line` and its number, and
+// nothing after it is read.
+mod cookies;
+mod fields;
 mod hex;
+mod output;
 mod text;
 
+use fields::SecretField;
 use libc::STDIN_FILENO;
-use libc::STDOUT_FILENO;
-use secret::Secret;
 
 // What a turn of reading leaves: how many bytes of an unfinished line stand at the buffer's front, and that line's number.
 struct Turn {
@@ -26,64 +40,55 @@ struct Rest {
     more: bool,
 }
 
-// Writes to standard output, and says on standard error if it can't.
-fn say(words: &[u8]) -> bool {
-    let is_written = io::write_all(STDOUT_FILENO, words);
-    if !is_written {
-        os::fail(b"standard output");
+// `siphash24 KEY MESSAGE`
+fn hash_line(line: &[u8], number: u64, bytes: &mut [u8]) -> bool {
+    if text::fields(line) != 3 {
+        return output::bad_line(number);
     }
-    is_written
-}
-
-fn say_number(words: &[u8], number: u64) -> bool {
-    if !say(words) {
+    let SecretField::Is(key) = fields::secret(text::field(line, 1)) else {
+        return output::bad_line(number);
+    };
+    let message = hex::decode(text::field(line, 2), bytes);
+    if !message.ok {
+        return output::bad_line(number);
+    }
+    if !output::say(line) {
         return false;
     }
-    let mut digits = [0u8; 20];
-    let n = io::decimal(number, &mut digits);
-    if !say(&digits[0..n]) {
-        return false;
-    }
-    say(b"\n")
-}
-
-// `siphash24 KEY MESSAGE`, of which `fields` is what follows the verb.
-fn hash_line(line: &[u8], fields: &[u8], number: u64, bytes: &mut [u8]) -> bool {
-    let n = text::find(fields, b' ');
-    let mut key = [0u8; 16];
-    let key_read = hex::decode(&fields[0..n], &mut key);
-    if key_read.count != 16 {
-        return say_number(b"bad line ", number);
-    }
-    let read = hex::decode(text::after(fields, n), bytes);
-    if !read.ok {
-        return say_number(b"bad line ", number);
-    }
-    let count = read.count;
-    let hash = siphash::siphash24_bytes(Secret::read(&key), &bytes[0..count]);
-    if !say(line) {
-        return false;
-    }
-    say(&hex::line_end(hash))
+    let n = message.count;
+    let hash = siphash::siphash24_bytes(key, &bytes[0..n]);
+    output::say_last(&hash)
 }
 
 // Answers one line. False: nothing more can be written.
-fn run_line(line: &[u8], number: u64, bytes: &mut [u8]) -> bool {
+fn run_line(line: &[u8], number: u64, bytes: &mut [u8], others: &mut [u8]) -> bool {
     if text::is_comment(line) {
-        if !say(line) {
+        if !output::say(line) {
             return false;
         }
-        return say(b"\n");
+        return output::say(b"\n");
     }
-    let n = text::find(line, b' ');
-    if octets::same(&line[0..n], b"siphash24") {
-        return hash_line(line, text::after(line, n), number, bytes);
+    let verb = text::field(line, 0);
+    if octets::same(verb, b"siphash24") {
+        return hash_line(line, number, bytes);
     }
-    say_number(b"bad line ", number)
+    if octets::same(verb, b"judge") {
+        return cookies::judge_line(line, number, bytes, others);
+    }
+    if octets::same(verb, b"fresh") {
+        return cookies::fresh_line(line, number, bytes, others);
+    }
+    if octets::same(verb, b"kept") {
+        return cookies::kept_line(line, number, bytes, others);
+    }
+    if octets::same(verb, b"body") {
+        return cookies::body_line(line, number, bytes);
+    }
+    output::bad_line(number)
 }
 
 // Answers each whole line of a text.
-fn run_lines(lines: &[u8], first: u64, bytes: &mut [u8]) -> Rest {
+fn run_lines(lines: &[u8], first: u64, bytes: &mut [u8], others: &mut [u8]) -> Rest {
     let mut at = 0;
     let mut number = first;
     while at < lines.len() {
@@ -96,7 +101,7 @@ fn run_lines(lines: &[u8], first: u64, bytes: &mut [u8]) -> Rest {
                 more: true,
             };
         }
-        if !run_line(&rest[0..n], number, bytes) {
+        if !run_line(&rest[0..n], number, bytes, others) {
             return Rest {
                 start: at,
                 number,
@@ -114,14 +119,20 @@ fn run_lines(lines: &[u8], first: u64, bytes: &mut [u8]) -> Rest {
 }
 
 // Reads once behind what was kept, answers the lines that are whole by then, and keeps the rest.
-fn read_once(buffer: &mut [u8], kept: usize, number: u64, bytes: &mut [u8]) -> Turn {
+fn read_once(
+    buffer: &mut [u8],
+    kept: usize,
+    number: u64,
+    bytes: &mut [u8],
+    others: &mut [u8],
+) -> Turn {
     let done = Turn {
         kept: 0,
         number,
         more: false,
     };
     if buffer.len() <= kept {
-        say_number(b"long line ", number);
+        output::say_number(b"long line ", number);
         return done;
     }
     let got = libc::read(STDIN_FILENO, &mut buffer[kept..]);
@@ -131,12 +142,12 @@ fn read_once(buffer: &mut [u8], kept: usize, number: u64, bytes: &mut [u8]) -> T
     }
     if got == 0 {
         if 0 < kept {
-            run_line(&buffer[0..kept], number, bytes);
+            run_line(&buffer[0..kept], number, bytes, others);
         }
         return done;
     }
     let have = kept + io::count(got, &buffer[kept..]);
-    let rest = run_lines(&buffer[0..have], number, bytes);
+    let rest = run_lines(&buffer[0..have], number, bytes, others);
     let start = rest.start;
     Turn {
         kept: text::shift(buffer, start, have),
@@ -146,12 +157,12 @@ fn read_once(buffer: &mut [u8], kept: usize, number: u64, bytes: &mut [u8]) -> T
 }
 
 // A proved loop has to end, and nothing says that the input does: it counts down from a number that no run uses up.
-fn run(buffer: &mut [u8], bytes: &mut [u8]) {
+fn run(buffer: &mut [u8], bytes: &mut [u8], others: &mut [u8]) {
     let mut kept = 0;
     let mut number = 1;
     let mut turns = u64::MAX;
     while 0 < turns {
-        let t = read_once(buffer, kept, number, bytes);
+        let t = read_once(buffer, kept, number, bytes, others);
         if !t.more {
             return;
         }
@@ -164,5 +175,6 @@ fn run(buffer: &mut [u8], bytes: &mut [u8]) {
 fn main() {
     let mut buffer = [0u8; 262144];
     let mut bytes = [0u8; 131072];
-    run(&mut buffer, &mut bytes);
+    let mut others = [0u8; 65535];
+    run(&mut buffer, &mut bytes, &mut others);
 }

@@ -24,9 +24,44 @@ pub fn find(s: &[u8], byte: u8) -> usize
     s.len()
 }
 
-// What follows the byte at a place, or nothing.
-pub fn after(s: &[u8], at: usize) -> &[u8] {
-    if at < s.len() { &s[at + 1..] } else { &s[..0] }
+// How many fields a line has: one more than its spaces.
+pub fn fields(line: &[u8]) -> usize {
+    let mut count = 1;
+    let mut at = 0;
+    while at < line.len() {
+        if line[at] == b' ' {
+            count = std::num::wrapping_add_usize(count, 1);
+        }
+        at += 1;
+    }
+    count
+}
+
+// Where the next field starts: behind the first space from a place on, or at the end.
+fn next_field(line: &[u8], from: usize) -> usize
+    ensures { λ r. ⌜ r ≤ length (now (line .entry)) ⌝ }
+{
+    let mut at = from;
+    while at < line.len() {
+        if line[at] == b' ' {
+            return at + 1;
+        }
+        at += 1;
+    }
+    line.len()
+}
+
+// The field of a number, the verb being 0, and nothing past the last.
+pub fn field(line: &[u8], number: usize) -> &[u8] {
+    let mut at = 0;
+    let mut i = 0;
+    while i < number {
+        at = next_field(line, at);
+        i += 1;
+    }
+    let rest = &line[at..];
+    let n = find(rest, b' ');
+    &rest[0..n]
 }
 
 // Moves the bytes from a place up to another to the front, and tells how many there are.

@@ -1,5 +1,5 @@
 use borrow.Author.Needs.{needs}
-use Rattle.cookie.proofs.ServerLaws.{is-8, is-between, is-short, is-long}
+use Rattle.cookie.proofs.MessageLaws.{is-8, is-between, is-short, is-long}
 use Rattle.cookie.proofs.server_cookie.is_body.Statement.{statement}
 use Rattle.cookie.proofs.server_cookie.is_body.Tie as tie
 use Rattle.cookie.proofs.server_cookie.is_body.Reads as reads

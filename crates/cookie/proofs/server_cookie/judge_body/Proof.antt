@@ -6,19 +6,19 @@ use Rattle.cookie.proofs.server_cookie.judge_body.Reads as reads
 use Rattle.cookie.proofs.server_cookie.judge_body.Lts as lts
 use Rattle.cookie.proofs.server_cookie.judge_server.Reads as judge-server-reads
 
--- src/server_cookie.rt:122:9
+-- src/server_cookie.rt:112:9
 returns : tie.Need-returns
 returns c = search (needs, judge-8)
 
--- src/server_cookie.rt:125:9
+-- src/server_cookie.rt:115:9
 returns-2 : tie.Need-returns-2
 returns-2 c = search (needs, judge-other)
 
--- src/server_cookie.rt:127:5
+-- src/server_cookie.rt:117:5
 judge-server-requires : tie.Need-judge-server-requires
 judge-server-requires c κs = search needs
 
--- src/server_cookie.rt:117:1
+-- src/server_cookie.rt:107:1
 returns-3 : tie.Need-returns-3
 returns-3 c = search needs
 

@@ -7,39 +7,39 @@ use Rattle.cookie.proofs.server_cookie.matching.Lts as lts
 use Rattle.cookie.proofs.server_cookie.has_hash.Reads as has-hash-reads
 use Rattle.secret.proofs.Secrets.generating.Reads as generating-reads
 
--- src/server_cookie.rt:84:17
+-- src/server_cookie.rt:71:17
 generating-requires : tie.Need-generating-requires
 generating-requires c κs = search needs
 
--- src/server_cookie.rt:84:8
+-- src/server_cookie.rt:71:8
 has-hash-requires : tie.Need-has-hash-requires
 has-hash-requires c κs = search needs
 
--- src/server_cookie.rt:85:9
+-- src/server_cookie.rt:72:9
 returns : tie.Need-returns
 returns c = search (needs, match-generating)
 
--- src/server_cookie.rt:88:28
+-- src/server_cookie.rt:75:28
 enum-told : tie.Need-enum-told
 enum-told c = search needs
 
--- src/server_cookie.rt:89:39
+-- src/server_cookie.rt:78:13
 enum-known-secrets : tie.Need-enum-known-secrets
 enum-known-secrets c = search needs
 
--- src/server_cookie.rt:90:16
+-- src/server_cookie.rt:80:16
 has-hash-requires-2 : tie.Need-has-hash-requires-2
 has-hash-requires-2 c κs = search needs
 
--- src/server_cookie.rt:81:1
+-- src/server_cookie.rt:67:1
 returns-2 : tie.Need-returns-2
 returns-2 c = search (needs, match-none)
 
--- src/server_cookie.rt:81:1
+-- src/server_cookie.rt:67:1
 returns-3 : tie.Need-returns-3
 returns-3 c = search (needs, match-other)
 
--- src/server_cookie.rt:81:1
+-- src/server_cookie.rt:67:1
 returns-4 : tie.Need-returns-4
 returns-4 c = search (needs, match-neither)
 

@@ -1,0 +1,308 @@
+// The verbs that run the crate `cookie`: judge, fresh, kept and body. Each answers one line. False: nothing more can be written.
+use crate::fields;
+use crate::fields::ClockField;
+use crate::fields::CountField;
+use crate::fields::ModeField;
+use crate::fields::SecretField;
+use crate::fields::SecretsField;
+use crate::hex;
+use crate::output;
+use crate::text;
+use cookie::Action;
+use cookie::Carried;
+use cookie::Judged;
+use cookie::Mode;
+use cookie::Reason;
+use cookie::Refusal;
+use cookie::Reply;
+use cookie::Verdict;
+use cookie::Which;
+use cookie::Written;
+use secret::Secrets;
+
+// What a `judge` line says of everything but the address and the body.
+enum Setting {
+    Of {
+        mode: Mode,
+        qdcount: u16,
+        secrets: Secrets,
+        clock: u32,
+    },
+    Bad,
+}
+
+fn setting_of(line: &[u8]) -> Setting {
+    let ModeField::Is(mode) = fields::mode(text::field(line, 1)) else {
+        return Setting::Bad;
+    };
+    let CountField::Is(qdcount) = fields::count(text::field(line, 2)) else {
+        return Setting::Bad;
+    };
+    let SecretsField::Are(secrets) = fields::secrets(text::field(line, 3), text::field(line, 4))
+    else {
+        return Setting::Bad;
+    };
+    let ClockField::Is(clock) = fields::clock(text::field(line, 5)) else {
+        return Setting::Bad;
+    };
+    Setting::Of {
+        mode,
+        qdcount,
+        secrets,
+        clock,
+    }
+}
+
+// The number of a refusal in document 01.
+fn say_refusal(refusal: Refusal) -> bool {
+    match refusal {
+        Refusal::Output => output::say(b"1"),
+        Refusal::Address => output::say(b"2"),
+        Refusal::Body => output::say(b"10"),
+    }
+}
+
+fn say_reason(reason: Reason) -> bool {
+    match reason {
+        Reason::Method => output::say(b" bad method"),
+        Reason::Hash => output::say(b" bad hash"),
+        Reason::Time => output::say(b" bad time"),
+    }
+}
+
+// A number that is not negative, and 0 for one that is.
+fn natural(number: i32) -> u64 {
+    if number < 0 {
+        return 0;
+    }
+    number as u64
+}
+
+// A signed number. `-age` does not fit for the least one, and `-1 - age` always does.
+fn say_age(age: i32) -> bool {
+    if age < 0 {
+        if !output::say(b"-") {
+            return false;
+        }
+        let ahead = natural(-1 - age);
+        return output::say_decimal(std::num::wrapping_add_u64(ahead, 1));
+    }
+    output::say_decimal(natural(age))
+}
+
+fn say_good(age: i32, secret: Which) -> bool {
+    if !output::say(b" good ") {
+        return false;
+    }
+    if !say_age(age) {
+        return false;
+    }
+    match secret {
+        Which::Generating => output::say(b" generating"),
+        Which::Other => output::say(b" other"),
+    }
+}
+
+fn say_verdict(verdict: Verdict) -> bool {
+    match verdict {
+        Verdict::Ignored => output::say(b" ignored"),
+        Verdict::Absent => output::say(b" absent"),
+        Verdict::ClientOnly => output::say(b" client-only"),
+        Verdict::Bad(reason) => say_reason(reason),
+        Verdict::Good { age, secret } => say_good(age, secret),
+    }
+}
+
+fn say_action(action: Action) -> bool {
+    match action {
+        Action::Serve => output::say(b" serve"),
+        Action::BadCookie => output::say(b" badcookie"),
+        Action::Truncate => output::say(b" truncate"),
+    }
+}
+
+fn say_reply(reply: Reply) -> bool {
+    let action = reply.action;
+    let option = reply.option;
+    if !say_action(action) {
+        return false;
+    }
+    match option {
+        Carried::Nothing => output::say(b" none\n"),
+        Carried::Fresh => output::say(b" fresh\n"),
+        Carried::Kept => output::say(b" kept\n"),
+    }
+}
+
+// The line, the verdict and the reply that it owes.
+fn answer_found(line: &[u8], mode: Mode, qdcount: u16, verdict: Verdict, body: &[u8]) -> bool {
+    if !output::say(line) {
+        return false;
+    }
+    if !say_verdict(verdict) {
+        return false;
+    }
+    say_reply(cookie::reply_for(mode, qdcount, verdict, body))
+}
+
+fn answer_judged(line: &[u8], mode: Mode, qdcount: u16, judged: Judged, body: &[u8]) -> bool {
+    match judged {
+        Judged::Found(verdict) => answer_found(line, mode, qdcount, verdict, body),
+        Judged::Refused(refusal) => {
+            if !output::say(line) {
+                return false;
+            }
+            if !output::say(b" refused ") {
+                return false;
+            }
+            if !say_refusal(refusal) {
+                return false;
+            }
+            output::say(b"\n")
+        }
+    }
+}
+
+// The verdict of a request without a COOKIE option.
+fn without(mode: Mode) -> Verdict {
+    match mode {
+        Mode::Disabled => Verdict::Ignored,
+        Mode::Enabled => Verdict::Absent,
+        Mode::Enforced => Verdict::Absent,
+    }
+}
+
+// Judges, once the body is one part of a buffer: it is lent twice, to be judged and for the reply.
+fn judge(
+    line: &[u8],
+    mode: Mode,
+    qdcount: u16,
+    secrets: Secrets,
+    clock: u32,
+    address: &[u8],
+    body: &[u8],
+) -> bool {
+    let judged = cookie::judge(mode, secrets, clock, address, body);
+    answer_judged(line, mode, qdcount, judged, body)
+}
+
+// `judge MODE QDCOUNT GENERATING OTHER CLOCK ADDRESS BODY`
+pub fn judge_line(line: &[u8], number: u64, bytes: &mut [u8], others: &mut [u8]) -> bool {
+    if text::fields(line) != 8 {
+        return output::bad_line(number);
+    }
+    let Setting::Of {
+        mode,
+        qdcount,
+        secrets,
+        clock,
+    } = setting_of(line)
+    else {
+        return output::bad_line(number);
+    };
+    let address = hex::decode_part(text::field(line, 6), others);
+    if !address.ok {
+        return output::bad_line(number);
+    }
+    if octets::same(text::field(line, 7), b"none") {
+        return answer_found(line, mode, qdcount, without(mode), b"");
+    }
+    let body = hex::decode_part(text::field(line, 7), bytes);
+    if !body.ok {
+        return output::bad_line(number);
+    }
+    let n = address.count;
+    let m = body.count;
+    judge(
+        line,
+        mode,
+        qdcount,
+        secrets,
+        clock,
+        &others[0..n],
+        &bytes[0..m],
+    )
+}
+
+// The line, the refusal or 0, and the buffer afterwards.
+fn answer_written(line: &[u8], written: Written, buffer: &[u8]) -> bool {
+    if !output::say(line) {
+        return false;
+    }
+    if !output::say(b" ") {
+        return false;
+    }
+    let is_said = match written {
+        Written::Done => output::say(b"0"),
+        Written::Refused(refusal) => say_refusal(refusal),
+    };
+    if !is_said {
+        return false;
+    }
+    output::say_last(buffer)
+}
+
+// `fresh OUTPUT SECRET CLOCK ADDRESS CLIENT`
+pub fn fresh_line(line: &[u8], number: u64, bytes: &mut [u8], others: &mut [u8]) -> bool {
+    if text::fields(line) != 6 {
+        return output::bad_line(number);
+    }
+    let SecretField::Is(secret) = fields::secret(text::field(line, 2)) else {
+        return output::bad_line(number);
+    };
+    let ClockField::Is(clock) = fields::clock(text::field(line, 3)) else {
+        return output::bad_line(number);
+    };
+    let mut client = [0u8; 8];
+    let client_read = hex::decode(text::field(line, 5), &mut client);
+    if client_read.count != 8 {
+        return output::bad_line(number);
+    }
+    let address = hex::decode_part(text::field(line, 4), others);
+    if !address.ok {
+        return output::bad_line(number);
+    }
+    let lent = hex::decode_part(text::field(line, 1), bytes);
+    if !lent.ok {
+        return output::bad_line(number);
+    }
+    let n = lent.count;
+    let m = address.count;
+    let written = cookie::write_fresh(&mut bytes[0..n], secret, clock, &others[0..m], &client);
+    answer_written(line, written, &bytes[0..n])
+}
+
+// `kept OUTPUT BODY`
+pub fn kept_line(line: &[u8], number: u64, bytes: &mut [u8], others: &mut [u8]) -> bool {
+    if text::fields(line) != 3 {
+        return output::bad_line(number);
+    }
+    let lent = hex::decode_part(text::field(line, 1), bytes);
+    if !lent.ok {
+        return output::bad_line(number);
+    }
+    let body = hex::decode_part(text::field(line, 2), others);
+    if !body.ok {
+        return output::bad_line(number);
+    }
+    let n = lent.count;
+    let m = body.count;
+    let written = cookie::write_kept(&mut bytes[0..n], &others[0..m]);
+    answer_written(line, written, &bytes[0..n])
+}
+
+// `body BUFFER`
+pub fn body_line(line: &[u8], number: u64, bytes: &mut [u8]) -> bool {
+    if text::fields(line) != 2 {
+        return output::bad_line(number);
+    }
+    let buffer = hex::decode_part(text::field(line, 1), bytes);
+    if !buffer.ok {
+        return output::bad_line(number);
+    }
+    if !output::say(line) {
+        return false;
+    }
+    let n = buffer.count;
+    output::say_last(cookie::written_body(&bytes[0..n]))
+}
