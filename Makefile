@@ -27,6 +27,6 @@ differential: build
 	@tests/expected.py --tally <target/got
 	@echo "$(COUNT) lines from seed $(SEED): the same output"
 
-# Times against plain C, in turns.
+# Times against plain C, and those of cookies against libknot where it is installed, in turns.
 bench:
 	@bench/run
