@@ -1,10 +1,13 @@
 -- The claims of specs/Cases.antt, by computing the definitions. Assumes nothing.
 use mathlib.Core.Path.{refl}
+use Prim.Native.Nat.{suc}
+use native.Mathlib.Omega.{arith}
+use borrow.Author.Tests.{ne-eqb}
 use Rattle.octets.specs.Numbers.{leNumber, leBytes, beNumber, beBytes, printed}
 use Rattle.octets.specs.Runs.{sameRun}
 use Rattle.secret.specs.Secret.{secretOf}
 use Rattle.siphash.specs.SipHash.{sipHash24Bytes, sipHash24, finalized, absorbed, compressed, initialized, lastWord, wordAt, rounds, sipRound, rotl64}
-use Rattle.cookie.specs.Cases.{ReasonsHold, SecretsHold, RefusalsHold, AgesHold, RepliesHold, OptionsHold}
+use Rattle.cookie.specs.Cases.{ReasonsHold, SecretsHold, RefusalsHold, AgesHold, RepliesHold, OptionsHold, NamesHold, LengthsHold, ForAllHold}
 use Rattle.cookie.specs.CookieOption.{freshFront, freshServer, freshOption, keptOption, freshRefusal, keptRefusal, writtenBody}
 use Rattle.cookie.specs.PCases.{s1}
 use Rattle.cookie.specs.ReplyTable.{reservedZero, isYoung}
@@ -160,4 +163,58 @@ options-hold =
       back-head-3 = refl;
       back-head-4 = refl;
       back-empty = refl;
+    }
+
+pub names-hold : NamesHold
+names-hold =
+    record {
+      method = refl;
+      hash = refl;
+      time = refl;
+      of-ignored = refl;
+      of-absent = refl;
+      client-only = refl;
+      by-generating = refl;
+      by-other = refl;
+      output = refl;
+      no-address = refl;
+      no-body = refl;
+      done = refl;
+      judged-address = refl;
+      judged-body = refl;
+      judged = refl;
+      served = refl;
+      bad-cookie = refl;
+      truncated = refl;
+    }
+
+pub lengths-hold : LengthsHold
+unfolding checkingRefusal freshRefusal keptRefusal isAddress isBody printed beBytes
+lengths-hold =
+    record {
+      bodies = refl;
+      addresses = refl;
+      making-addresses = refl;
+      outputs = refl;
+      kept-outputs = refl;
+      large = refl;
+      kept-large = refl;
+    }
+
+pub for-all-hold : ForAllHold
+unfolding judgement checkingRefusal
+for-all-hold =
+    record {
+      alike = λ m s c a b. refl;
+      stays = λ n option output. refl;
+      disabled = λ q v b. refl;
+      enabled-absent = λ q b. refl;
+      enabled-client = λ q b. refl;
+      enabled-bad = λ q n b. refl;
+      enforced-absent = λ q b. refl;
+      enforced-client = λ q b. rw (ne-eqb (suc q) 0 (λ e. omega (arith, e)));
+      enforced-client-0 = λ b. refl;
+      enforced-bad = λ q n b. refl;
+      good-alike = λ q r a w b. refl;
+      good-other = λ q a b. refl;
     }

@@ -20,9 +20,9 @@ use Rattle.secret.specs.declared.Secret.{Secret}
 use Rattle.secret.specs.declared.Secrets.{Secrets}
 use Rattle.secret.specs.Secrets.{generatingOf, otherOf}
 use Rattle.siphash.specs.SipHash.{sipHash24, sipHash24Bytes}
-use Rattle.cookie.proofs.Good.{good-exactly-when}
+use Rattle.cookie.proofs.Good.{good-exactly-when, address-true}
 use Rattle.cookie.proofs.SerialLaws.{age-of-times}
-use Rattle.cookie.specs.Claims.{HashedUnder, MatchedBy, EightBytes, ReadBack, Holds, JudgedGood, FreshGood, FreshIsGood}
+use Rattle.cookie.specs.Claims.{HashedUnder, MatchedBy, EightBytes, AnAddress, ReadBack, Holds, JudgedGood, FreshGood, FreshIsGood}
 use Rattle.cookie.specs.Claims.Holds.{makes-with, accepts}
 use Rattle.cookie.specs.CookieOption.{optionHead, freshFront, freshServer, freshOption, freshRefusal, keptOption, keptRefusal, outputAfter, writtenBody}
 use Rattle.cookie.specs.ServerCookie.{CookieMethod, sipHashMethod, isAddress}
@@ -60,22 +60,21 @@ module _ (m : CookieMethod) (eight : EightBytes m) (secret : Secret) (clock : �
   unfolding freshOption
   fresh-back output taken = rw taken (option-back (client ++ freshServer m secret clock address client) output length-body)
 
--- a kept body is 24 bytes
-kept-long : (body output : List ℕ) → keptRefusal output body ≡ 0 → length body ≡ 24
+-- an output of 28 bytes and an address, or a body of 24, are taken
+fresh-taken : (output address : List ℕ) → 28 ≤ length output → AnAddress address → freshRefusal output address ≡ 0
+unfolding freshRefusal
+fresh-taken output address room from = rw (le-ltb (length output) 28 room, address-true address from)
+
+kept-taken : (body output : List ℕ) → 28 ≤ length output → length body ≡ 24 → keptRefusal output body ≡ 0
 unfolding keptRefusal
-kept-long body output taken = go (ltb (length output) 28) (eqb (length body) 24) refl taken
-  where
-    go : (s t : Bool) → eqb (length body) 24 ≡ t → _≡_ {A = ℕ} (cond s 1 (cond (not t) 10 0)) 0 → length body ≡ 24
-    go s true e f = eqb-true (length body) 24 e
-    go true false e f = omega (arith, f)
-    go false false e f = omega (arith, f)
+kept-taken body output room long = rw (le-ltb (length output) 28 room, long)
 
 pub read-back : ReadBack
 unfolding keptOption
 read-back =
     record {
-      fresh = λ m eight secret clock address client output taken long. fresh-back m eight secret clock address client long output taken;
-      kept = λ body output taken. rw taken (option-back body output (kept-long body output taken));
+      fresh = λ m eight secret clock address client output room from long. fresh-back m eight secret clock address client long output (fresh-taken output address room from);
+      kept = λ body output room long. rw (kept-taken body output room long) (option-back body output long);
     }
 
 -- ---- a fresh cookie is good
@@ -112,16 +111,6 @@ module _ (m : CookieMethod) (eight : EightBytes m) (secret : Secret) (clock : �
       ap (λ (l : List ℕ). take 8 (drop 16 l)) parts ∙ ap (take 8) (drop-at front hash 16 n) ∙ take-all 8 hash (omega (arith, eight secret (front ++ address))) in
       high ∙ ap (λ (l : List ℕ). m .hash secret (l ++ address)) (sym low)
 
--- the refusals that a making can get leave an address
-fresh-address : (output address : List ℕ) → freshRefusal output address ≡ 0 → isAddress address ≡ true
-unfolding freshRefusal
-fresh-address output address taken = go (ltb (length output) 28) (isAddress address) refl taken
-  where
-    go : (s t : Bool) → isAddress address ≡ t → _≡_ {A = ℕ} (cond s 1 (cond (not t) 2 0)) 0 → isAddress address ≡ true
-    go s true e f = e
-    go true false e f = absurd (omega (arith, f))
-    go false false e f = absurd (omega (arith, f))
-
 -- the difference of the times is in bounds
 module _ (made checked : ℕ) (early : made ≤ checked + 300) (late : checked ≤ made + 3600) where
   not-ahead : negsuc 299 ≤ℤ subℕ checked made
@@ -140,7 +129,10 @@ module _ (made checked : ℕ) (early : made ≤ checked + 300) (late : checked �
 
 module _ (m : CookieMethod) (eight : EightBytes m) (secret : Secret) (secrets : Secrets) (mode : Mode) (on : mode ≡ Disabled → ⊥)
     (made checked : ℕ) (early : made ≤ checked + 300) (late : checked ≤ made + 3600)
-    (address client output : List ℕ) (taken : freshRefusal output address ≡ 0) (long : length client ≡ 8) where
+    (address client output : List ℕ) (room : 28 ≤ length output) (from : AnAddress address) (long : length client ≡ 8) where
+  taken : freshRefusal output address ≡ 0
+  taken = fresh-taken output address room from
+
   abbrev stamp : ℕ
   stamp = made % 2 ^ 32
 
@@ -149,7 +141,7 @@ module _ (m : CookieMethod) (eight : EightBytes m) (secret : Secret) (secrets : 
   matched-good which hash =
       rw (fresh-back m eight secret stamp address client long output taken)
       (good-exactly-when m mode on secrets (checked % 2 ^ 32) address (body m eight secret stamp address client long) (subℕ checked made) which .1 record {
-        from = fresh-address output address taken;
+        from = from;
         long = length-body m eight secret stamp address client long;
         version = version-is m eight secret stamp address client long;
         hash = hash;
@@ -178,8 +170,8 @@ module _ (m : CookieMethod) (eight : EightBytes m) (secret : Secret) (secrets : 
       }
 
 pub fresh-is-good : FreshIsGood
-fresh-is-good m eight secret secrets mode on made checked early late address client output taken long =
-    fresh-good m eight secret secrets mode on made checked early late address client output taken long
+fresh-is-good m eight secret secrets mode on made checked early late address client output room from long =
+    fresh-good m eight secret secrets mode on made checked early late address client output room from long
 
 -- SipHash-2-4 gives eight bytes
 pub siphash-eight : EightBytes sipHashMethod

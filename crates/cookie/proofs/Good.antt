@@ -18,8 +18,9 @@ use Rattle.secret.specs.declared.Secret.{Secret}
 use Rattle.secret.specs.declared.Secrets.{Secrets}
 use Rattle.secret.specs.Secrets.{generatingOf, otherOf}
 use Rattle.cookie.proofs.BodyLaws.{judge-8, judge-other, judge-24, judge-matching}
-use Rattle.cookie.proofs.MessageLaws.{is-between}
-use Rattle.cookie.specs.Claims.{HashedUnder, MatchedBy, IsGood, GoodExactlyWhen}
+use Rattle.cookie.proofs.MessageLaws.{is-4, is-16, is-between}
+use Rattle.cookie.specs.Claims.{HashedUnder, MatchedBy, AnAddress, IsGood, GoodExactlyWhen}
+use Rattle.cookie.specs.Claims.AnAddress.{four, sixteen}
 use Rattle.cookie.specs.Serial.{age}
 use Rattle.cookie.specs.ServerCookie.{CookieMethod, Finding, Answer, matches, matchingOther, matching, isTimely, byTime, byHash, judgeBody, verdict, isDisabled, isAddress, isBody, checkingRefusal, answer, judgement}
 use Rattle.cookie.specs.ServerCookie.Answer.{refused, found}
@@ -136,6 +137,18 @@ module _ (m : CookieMethod) (secrets : Secrets) (address body : List ℕ) where
 
 -- ---- the whole
 
+pub address-true : (address : List ℕ) → AnAddress address → isAddress address ≡ true
+address-true address (four e) = sym (is-4 address e)
+address-true address (sixteen e) = sym (is-16 address e)
+
+true-address : (address : List ℕ) → isAddress address ≡ true → AnAddress address
+unfolding isAddress
+true-address address e = go (eqb (length address) 4) refl e
+  where
+    go : (t : Bool) → eqb (length address) 4 ≡ t → (t || eqb (length address) 16) ≡ true → AnAddress address
+    go true q h = four (eqb-true (length address) 4 q)
+    go false q h = sixteen (eqb-true (length address) 16 h)
+
 by-tests : (s t : Bool) (v : Finding) → answer (cond (not s) 2 (cond (not t) 10 0)) v ≡ cond s (cond t (found v) (refused 10)) (refused 2)
 by-tests true true v = refl
 by-tests true false v = refl
@@ -154,7 +167,7 @@ module _ (m : CookieMethod) (secrets : Secrets) (clock : ℕ) (address body : Li
       go (some v) p f =
           let t = time-good (age clock (be32At body 12)) a v w f in
           record {
-            from = from;
+            from = true-address address from;
             long = long;
             version = version;
             hash = match-good m secrets address body w (rw (t .1) at p);
@@ -203,7 +216,7 @@ module _ (m : CookieMethod) (secrets : Secrets) (clock : ℕ) (address body : Li
       by false p t f = absurd (false≢true (ap (λ (x : Answer). isGood (findingIn x)) f))
 
   when-good : (mode : Mode) → (mode ≡ Disabled → ⊥) → Good → judgement m mode secrets clock address body ≡ found (good a w)
-  when-good mode on g = judged mode on ∙ rw (g .from, legal (g .long), good-body g)
+  when-good mode on g = judged mode on ∙ rw (address-true address (g .from), legal (g .long), good-body g)
     where
       legal : length body ≡ 24 → isBody body ≡ true
       legal long = sym (is-between body (λ e. omega (arith, long, e)) (omega arith) (omega arith))

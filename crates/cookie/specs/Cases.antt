@@ -1,26 +1,33 @@
 -- Cases that pin the definitions beside the P cases: each reason, each refusal, how many secrets are held, ages, each cell of the reply table, and what is
 -- written and read back. The secret, the address and the cookie are those of P1; other hashes are what OpenSSL's SIPHASH gives. Assumes nothing.
-use Prim.Native.Nat.{ℕ, _+_, _^_}
+use Prim.Native.Nat.{ℕ, zero, suc, _+_, _^_}
 use mathlib.Core.Path.{_≡_}
-use mathlib.Core.List.{List, [], _∷_, _++_}
-use lib.IntN.{pos, negsuc}
+use mathlib.Core.List.{List, [], _∷_, _++_, map}
+use lib.IntN.{ℤ, pos, negsuc}
 use lib.ListN.{take, drop, replicate}
 use Rattle.octets.specs.Numbers.{printed}
 use Rattle.secret.specs.declared.Secret.{Secret}
 use Rattle.secret.specs.declared.Secrets.{Secrets}
 use Rattle.secret.specs.declared.Secrets.the-variants.{One, Two}
 use Rattle.secret.specs.Secret.{secretOf}
-use Rattle.cookie.specs.CookieOption.{freshOption, freshRefusal, keptOption, keptRefusal, outputAfter, writtenBody}
+use Rattle.cookie.specs.CookieOption.{freshOption, freshRefusal, keptOption, keptRefusal, outputAfter, writtenBody, writtenNumber}
 use Rattle.cookie.specs.PCases.{s1}
-use Rattle.cookie.specs.ReplyTable.{Owed, _carrying_, replyOwed}
+use Rattle.cookie.specs.ReplyTable.{Owed, _carrying_, replyOwed, owedOf}
 use Rattle.cookie.specs.ReplyTable.Sent.{serve, truncate, error}
 use Rattle.cookie.specs.Serial.{age}
-use Rattle.cookie.specs.ServerCookie.{Answer, sipHashMethod, judgement}
+use Rattle.cookie.specs.ServerCookie.{Answer, Finding, CookieMethod, sipHashMethod, judgement, checkingRefusal, finding, answerOf}
 use Rattle.cookie.specs.ServerCookie.Answer.{refused, found}
 use Rattle.cookie.specs.ServerCookie.Finding.{ignored, absent, clientOnly, bad, good}
 use Rattle.cookie.specs.declared.Carried.the-variants.{Nothing, Fresh, Kept}
 use Rattle.cookie.specs.declared.Mode.{Mode}
 use Rattle.cookie.specs.declared.Mode.the-variants.{Disabled, Enabled, Enforced}
+use Rattle.cookie.specs.declared.Judged.the-variants as judged-as
+use Rattle.cookie.specs.declared.Written.the-variants as written-as
+use Rattle.cookie.specs.declared.Reason.the-variants.{Method, Hash, Time}
+use Rattle.cookie.specs.declared.Refusal.the-variants.{Output, Address, Body}
+use Rattle.cookie.specs.declared.Verdict.the-variants.{Ignored, Absent, ClientOnly, Bad, Good}
+use Rattle.cookie.specs.declared.Action.the-variants.{Serve, BadCookie, Truncate}
+use Rattle.cookie.specs.declared.Which.{Which}
 use Rattle.cookie.specs.declared.Which.the-variants.{Generating, Other}
 
 -- P1's address, cookie and second; another secret; sixteen zero bytes
@@ -202,3 +209,56 @@ pub record OptionsHold : Type 0 where
   pub back-head-3 : writtenBody (printed 28 0x000a01182464c4abcf10c957010000005cf79f111f8130c3eee29480) ≡ []
   pub back-head-4 : writtenBody (printed 28 0x000a00172464c4abcf10c957010000005cf79f111f8130c3eee29480) ≡ []
   pub back-empty : writtenBody [] ≡ []
+
+-- what the code's enums say, each of their cases
+pub record NamesHold : Type 0 where
+  pub method : finding (Bad Method) ≡ bad 1
+  pub hash : finding (Bad Hash) ≡ bad 2
+  pub time : finding (Bad Time) ≡ bad 3
+  pub of-ignored : finding Ignored ≡ ignored
+  pub of-absent : finding Absent ≡ absent
+  pub client-only : finding ClientOnly ≡ clientOnly
+  pub by-generating : finding (Good (pos 5) Generating) ≡ good (pos 5) Generating
+  pub by-other : finding (Good (negsuc 4) Other) ≡ good (negsuc 4) Other
+  pub output : writtenNumber (written-as.Refused Output) ≡ 1
+  pub no-address : writtenNumber (written-as.Refused Address) ≡ 2
+  pub no-body : writtenNumber (written-as.Refused Body) ≡ 10
+  pub done : writtenNumber written-as.Done ≡ 0
+  pub judged-address : answerOf (judged-as.Refused Address) ≡ refused 2
+  pub judged-body : answerOf (judged-as.Refused Body) ≡ refused 10
+  pub judged : answerOf (judged-as.Found ClientOnly) ≡ found clientOnly
+  pub served : owedOf (record { action = Serve; option = Fresh }) ≡ serve carrying Fresh
+  pub bad-cookie : owedOf (record { action = BadCookie; option = Kept }) ≡ error 23 carrying Kept
+  pub truncated : owedOf (record { action = Truncate; option = Nothing }) ≡ truncate carrying Nothing
+
+-- lengths, all of them to 48: address and body of a checking, address and output of a making, output of a kept option
+abbrev pub upTo : ℕ → ℕ → List ℕ
+upTo at zero = []
+upTo at (suc n) = at ∷ upTo (suc at) n
+
+abbrev pub times : ℕ → ℕ → List ℕ
+times n x = replicate n x
+
+pub record LengthsHold : Type 0 where
+  pub bodies : map (λ (n : ℕ). checkingRefusal Enabled address (sevens n)) (upTo 0 48) ≡ times 8 10 ++ times 1 0 ++ times 7 10 ++ times 25 0 ++ times 7 10
+  pub addresses : map (λ (n : ℕ). checkingRefusal Enabled (sevens n) cookie) (upTo 0 48) ≡ times 4 2 ++ times 1 0 ++ times 11 2 ++ times 1 0 ++ times 31 2
+  pub making-addresses : map (λ (n : ℕ). freshRefusal (sevens 28) (sevens n)) (upTo 0 48) ≡ times 4 2 ++ times 1 0 ++ times 11 2 ++ times 1 0 ++ times 31 2
+  pub outputs : map (λ (n : ℕ). freshRefusal (sevens n) address) (upTo 0 48) ≡ times 28 1 ++ times 20 0
+  pub kept-outputs : map (λ (n : ℕ). keptRefusal (sevens n) cookie) (upTo 0 48) ≡ times 28 1 ++ times 20 0
+  pub large : freshRefusal (sevens 512) address ≡ 0
+  pub kept-large : keptRefusal (sevens 512) cookie ≡ 0
+
+-- the same for all: no mode but Disabled changes an answer; a refusal leaves the output; the table for every QDCOUNT, age and body
+pub record ForAllHold : Type 0 where
+  pub alike : (m : CookieMethod) (s : Secrets) (c : ℕ) (a b : List ℕ) → judgement m Enforced s c a b ≡ judgement m Enabled s c a b
+  pub stays : (n : ℕ) (option output : List ℕ) → outputAfter (suc n) option output ≡ output
+  pub disabled : (q : ℕ) (v : Finding) (b : List ℕ) → replyOwed Disabled q v b ≡ serve carrying Nothing
+  pub enabled-absent : (q : ℕ) (b : List ℕ) → replyOwed Enabled q absent b ≡ serve carrying Nothing
+  pub enabled-client : (q : ℕ) (b : List ℕ) → replyOwed Enabled q clientOnly b ≡ serve carrying Fresh
+  pub enabled-bad : (q n : ℕ) (b : List ℕ) → replyOwed Enabled q (bad n) b ≡ error 23 carrying Fresh
+  pub enforced-absent : (q : ℕ) (b : List ℕ) → replyOwed Enforced q absent b ≡ truncate carrying Nothing
+  pub enforced-client : (q : ℕ) (b : List ℕ) → replyOwed Enforced (suc q) clientOnly b ≡ error 23 carrying Fresh
+  pub enforced-client-0 : (b : List ℕ) → replyOwed Enforced 0 clientOnly b ≡ serve carrying Fresh
+  pub enforced-bad : (q n : ℕ) (b : List ℕ) → replyOwed Enforced q (bad n) b ≡ error 23 carrying Fresh
+  pub good-alike : (q r : ℕ) (a : ℤ) (w : Which) (b : List ℕ) → replyOwed Enforced q (good a w) b ≡ replyOwed Enabled r (good a w) b
+  pub good-other : (q : ℕ) (a : ℤ) (b : List ℕ) → replyOwed Enabled q (good a Other) b ≡ serve carrying Fresh

@@ -14,7 +14,7 @@ use Rattle.secret.specs.declared.Secrets.{Secrets}
 use Rattle.secret.specs.Secrets.{generatingOf, otherOf}
 use Rattle.cookie.specs.CookieOption.{freshOption, freshServer, freshRefusal, keptOption, keptRefusal, outputAfter, writtenBody}
 use Rattle.cookie.specs.Serial.{age}
-use Rattle.cookie.specs.ServerCookie.{CookieMethod, isAddress, judgement}
+use Rattle.cookie.specs.ServerCookie.{CookieMethod, judgement}
 use Rattle.cookie.specs.ServerCookie.Answer.{found}
 use Rattle.cookie.specs.ServerCookie.Finding.{good}
 use Rattle.cookie.specs.declared.Mode.{Mode}
@@ -35,9 +35,14 @@ MatchedBy m secrets address body Other =
     (HashedUnder m address body (generatingOf secrets) → ⊥)
     × (other : Secret) × (otherOf secrets ≡ some other) × HashedUnder m address body other
 
+-- an address as document 01 has it: 4 or 16 bytes
+pub data AnAddress (address : List ℕ) : Type 0 where
+  four : length address ≡ 4 → AnAddress address
+  sixteen : length address ≡ 16 → AnAddress address
+
 -- what the texts ask of a good cookie, with its age and the secret that matched
 pub record IsGood (m : CookieMethod) (secrets : Secrets) (clock : ℕ) (address body : List ℕ) (a : ℤ) (which : Which) : Type 0 where
-  pub from : isAddress address ≡ true
+  pub from : AnAddress address
   pub long : length body ≡ 24
   pub version : getD body 8 0 ≡ m .version
   pub hash : MatchedBy m secrets address body which
@@ -94,15 +99,15 @@ abbrev pub FreshIsGood : Type 0
 FreshIsGood =
     (m : CookieMethod) → EightBytes m → (secret : Secret) (secrets : Secrets) (mode : Mode) → (mode ≡ Disabled → ⊥)
     → (made checked : ℕ) → made ≤ checked + 300 → checked ≤ made + 3600
-    → (address client output : List ℕ) → freshRefusal output address ≡ 0 → length client ≡ 8
+    → (address client output : List ℕ) → 28 ≤ length output → AnAddress address → length client ≡ 8
     → FreshGood m secret secrets mode made checked address client output
 
 -- ---- what is read back is what was written
 
 pub record ReadBack : Type 0 where
   pub fresh : (m : CookieMethod) → EightBytes m → (secret : Secret) (clock : ℕ) (address client output : List ℕ)
-      → freshRefusal output address ≡ 0 → length client ≡ 8
+      → 28 ≤ length output → AnAddress address → length client ≡ 8
       → writtenBody (outputAfter (freshRefusal output address) (freshOption m secret clock address client) output)
       ≡ client ++ freshServer m secret clock address client
-  pub kept : (body output : List ℕ) → keptRefusal output body ≡ 0
+  pub kept : (body output : List ℕ) → 28 ≤ length output → length body ≡ 24
       → writtenBody (outputAfter (keptRefusal output body) (keptOption body) output) ≡ body
