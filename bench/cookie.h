@@ -5,12 +5,13 @@
 // Modes, by number.
 enum { DISABLED, ENABLED, ENFORCED };
 
-// Answers, by number. A refusal has document 01's.
+// Answers, by number. A refusal has document 01's, but for a body that can't be kept.
 enum {
     DONE = 0,
     REFUSED_OUTPUT = 1,
     REFUSED_ADDRESS = 2,
     REFUSED_BODY = 10,
+    REFUSED_KEPT = 100,
     IGNORED = 20,
     ABSENT,
     CLIENT_ONLY,

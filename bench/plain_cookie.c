@@ -55,7 +55,7 @@ uint32_t plain_fresh(uint8_t *output, size_t output_length, uint64_t k0, uint64_
 
 uint32_t plain_kept(uint8_t *output, size_t output_length, const uint8_t *body, size_t body_length) {
     if (output_length < 28) return REFUSED_OUTPUT;
-    if (body_length != 24) return REFUSED_BODY;
+    if (body_length != 24) return REFUSED_KEPT;
     memcpy(output, "\0\12\0\30", 4);
     memcpy(output + 4, body, 24);
     return DONE;

@@ -20,6 +20,7 @@ LONGEST = 262143  # bytes of a line that `vectors` reads
 LARGEST = 65535  # bytes of an OUTPUT, ADDRESS, BODY or BUFFER
 
 HEAD = bytes.fromhex("000a0018")  # option code 10, length 24
+NOT_KEPT = 100  # a body to keep that is not 24 bytes: this project's own number
 SERVER_HEAD = bytes.fromhex("01000000")  # version 1, reserved bytes zero
 CLIENT, OPTION = 8, 28
 
@@ -132,7 +133,7 @@ def write_kept(output, body):
     if len(output) < OPTION:
         return 1, output
     if len(body) != OPTION - len(HEAD):
-        return 10, output
+        return NOT_KEPT, output
     return written(output, HEAD + body)
 
 
@@ -258,7 +259,7 @@ def kinds():
     yield from ("bad line", "siphash24")
     for mode, answers in judged.items():
         yield from (f"judge {mode} {given}" for given in answers)
-    yield from ("fresh 0", "fresh 1", "fresh 2", "kept 0", "kept 1", "kept 10", "body handed back", "body empty")
+    yield from ("fresh 0", "fresh 1", "fresh 2", "kept 0", "kept 1", "kept 100", "body handed back", "body empty")
 
 
 def kind(line):

@@ -7,7 +7,7 @@ use Rattle.octets.specs.Numbers.{leNumber, leBytes, beNumber, beBytes, printed}
 use Rattle.octets.specs.Runs.{sameRun}
 use Rattle.secret.specs.Secret.{secretOf}
 use Rattle.siphash.specs.SipHash.{sipHash24Bytes, sipHash24, finalized, absorbed, compressed, initialized, lastWord, wordAt, rounds, sipRound, rotl64}
-use Rattle.cookie.specs.Cases.{ReasonsHold, SecretsHold, RefusalsHold, AgesHold, RepliesHold, OptionsHold, NamesHold, LengthsHold, ForAllHold}
+use Rattle.cookie.specs.Cases.{ReasonsHold, SecretsHold, RefusalsHold, AgesHold, RepliesHold, OptionsHold, NamesHold, LengthsHold}
 use Rattle.cookie.specs.CookieOption.{freshFront, freshServer, freshOption, keptOption, freshRefusal, keptRefusal, writtenBody}
 use Rattle.cookie.specs.PCases.{s1}
 use Rattle.cookie.specs.ReplyTable.{reservedZero, isYoung}
@@ -22,6 +22,7 @@ reasons-hold =
       version-0 = refl;
       version-2 = refl;
       version-240 = refl;
+      every-length = refl;
       shorter = refl;
       longer = refl;
       least = refl;
@@ -81,6 +82,7 @@ refusals-hold =
       address-enforced = refl;
       address-disabled = refl;
       address-first = refl;
+      alike = λ m s c a b. refl;
       disabled-cookie = refl;
       disabled-body = refl;
       disabled-six = refl;
@@ -104,40 +106,26 @@ pub replies-hold : RepliesHold
 unfolding reservedZero isYoung sameRun printed beBytes
 replies-hold =
     record {
-      disabled-ignored = refl;
-      disabled-absent = refl;
-      disabled-client-only = refl;
-      disabled-bad = refl;
-      disabled-good = refl;
-      enabled-ignored = refl;
-      enabled-absent = refl;
-      enabled-client-only = refl;
-      enabled-method = refl;
-      enabled-hash = refl;
-      enabled-time = refl;
-      enabled-kept = refl;
-      enabled-kept-last = refl;
-      enabled-old = refl;
-      enabled-ahead = refl;
-      enabled-other = refl;
-      enabled-reserved-one = refl;
-      enabled-reserved-two = refl;
-      enabled-reserved-three = refl;
-      enforced-ignored = refl;
-      enforced-absent = refl;
-      enforced-client-only = refl;
-      enforced-method = refl;
-      enforced-hash = refl;
-      enforced-time = refl;
-      enforced-kept = refl;
-      enforced-old = refl;
-      enforced-other = refl;
-      no-question-client-only = refl;
-      no-question-enabled = refl;
-      no-question-absent = refl;
-      no-question-bad = refl;
-      no-question-good = refl;
-      no-question-disabled = refl;
+      disabled = λ q v b. refl;
+      enabled-ignored = λ q b. refl;
+      enabled-absent = λ q b. refl;
+      enabled-client = λ q b. refl;
+      enabled-bad = λ q n b. refl;
+      enforced-ignored = λ q b. refl;
+      enforced-absent = λ q b. refl;
+      enforced-client = λ q b. rw (ne-eqb (suc q) 0 (λ e. omega (arith, e)));
+      enforced-client-0 = λ b. refl;
+      enforced-bad = λ q n b. refl;
+      good-alike = λ q r a w b. refl;
+      good-other = λ q a b. refl;
+      kept-first = refl;
+      kept-last = refl;
+      too-old = refl;
+      ahead = refl;
+      reserved-one = refl;
+      reserved-two = refl;
+      reserved-three = refl;
+      no-reserved = refl;
     }
 
 pub options-hold : OptionsHold
@@ -155,7 +143,9 @@ options-hold =
       kept-neither = refl;
       fresh = refl;
       kept = refl;
-      stays = refl;
+      stays = λ n option output. refl;
+      fresh-six = refl;
+      nothing = λ output. refl;
       back = refl;
       back-short = refl;
       back-head-1 = refl;
@@ -179,6 +169,7 @@ names-hold =
       output = refl;
       no-address = refl;
       no-body = refl;
+      not-kept = refl;
       done = refl;
       judged-address = refl;
       judged-body = refl;
@@ -199,22 +190,4 @@ lengths-hold =
       kept-outputs = refl;
       large = refl;
       kept-large = refl;
-    }
-
-pub for-all-hold : ForAllHold
-unfolding judgement checkingRefusal
-for-all-hold =
-    record {
-      alike = λ m s c a b. refl;
-      stays = λ n option output. refl;
-      disabled = λ q v b. refl;
-      enabled-absent = λ q b. refl;
-      enabled-client = λ q b. refl;
-      enabled-bad = λ q n b. refl;
-      enforced-absent = λ q b. refl;
-      enforced-client = λ q b. rw (ne-eqb (suc q) 0 (λ e. omega (arith, e)));
-      enforced-client-0 = λ b. refl;
-      enforced-bad = λ q n b. refl;
-      good-alike = λ q r a w b. refl;
-      good-other = λ q a b. refl;
     }

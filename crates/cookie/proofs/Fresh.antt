@@ -1,4 +1,4 @@
--- The claims `ReadBack` and `FreshIsGood` of specs/Claims.antt. Assumes nothing.
+-- The claims `WrittenWhole`, `SipHashEight` and `FreshIsGood` of specs/Claims.antt. Assumes nothing.
 use mathlib.Core.Path.{_≡_, refl, sym, ap, _∙_}
 use mathlib.Core.Bool.{Bool, true, false, not, cond, _&&_, true≢false, false≢true}
 use mathlib.Core.List.{List, [], _∷_, _++_, append-assoc}
@@ -9,7 +9,7 @@ use borrow.Author.Tests.{eqb-true, ltb-true, ltb-false, lt-ltb, le-ltb, le-leb}
 use lib.Dec.{eqb, ltb, leb, le→leb}
 use lib.IntN.{ℤ, pos, negsuc, subℕ}
 use lib.ListN.{length, take, drop, getD, length-append, length-drop}
-use lib.Seq.{take-at, drop-at, take-all, drop-drop, getD-drop}
+use lib.Seq.{take-at, drop-at, take-append-le, drop-append-le, take-all, drop-drop, getD-drop}
 use lib.Signed.{leZ, _≤ℤ_}
 use Rattle.octets.specs.Numbers.{beNumber, beBytes, be32At}
 use Rattle.octets.proofs.NumberLaws.{length-leBytes, length-beBytes, be-back}
@@ -22,7 +22,7 @@ use Rattle.secret.specs.Secrets.{generatingOf, otherOf}
 use Rattle.siphash.specs.SipHash.{sipHash24, sipHash24Bytes}
 use Rattle.cookie.proofs.Good.{good-exactly-when, address-true}
 use Rattle.cookie.proofs.SerialLaws.{age-of-times}
-use Rattle.cookie.specs.Claims.{HashedUnder, MatchedBy, EightBytes, AnAddress, ReadBack, Holds, JudgedGood, FreshGood, FreshIsGood}
+use Rattle.cookie.specs.Claims.{HashedUnder, MatchedBy, EightBytes, AnAddress, SipHashEight, Holding, WrittenWhole, Holds, JudgedGood, FreshGood, FreshIsGood}
 use Rattle.cookie.specs.Claims.Holds.{makes-with, accepts}
 use Rattle.cookie.specs.CookieOption.{optionHead, freshFront, freshServer, freshOption, freshRefusal, keptOption, keptRefusal, outputAfter, writtenBody}
 use Rattle.cookie.specs.ServerCookie.{CookieMethod, sipHashMethod, isAddress}
@@ -34,13 +34,53 @@ use Rattle.cookie.specs.declared.Which.the-variants.{Generating, Other}
 
 -- ---- read back
 
--- an option of 28 bytes at the front of an output is read back
-option-back : (body output : List ℕ) → length body ≡ 24 → writtenBody (outputAfter 0 (optionHead ++ body) output) ≡ body
-unfolding writtenBody sameRun
-option-back body output long =
-    let rest = drop 28 output in
-    let room : 28 ≤ length (optionHead ++ (body ++ rest)) = omega (arith, length-append body rest) in
-    rw (le-leb 28 (length (optionHead ++ (body ++ rest))) room) (take-at body rest 24 long)
+-- an option of 28 bytes at the front of an output
+module _ (body output : List ℕ) (long : length body ≡ 24) (room : 28 ≤ length output) where
+  abbrev rest : List ℕ
+  rest = drop 28 output
+
+  abbrev whole : List ℕ
+  whole = optionHead ++ (body ++ rest)
+
+  after-is : outputAfter 0 (optionHead ++ body) output ≡ whole
+  after-is = let n : length (optionHead ++ body) ≡ 28 = omega (arith, length-append optionHead body) in ap (λ (k : ℕ). whole-at k) n
+    where
+      whole-at : ℕ → List ℕ
+      whole-at k = optionHead ++ (body ++ drop k output)
+
+  whole-long : length whole ≡ length output
+  whole-long = omega (arith, length-append body rest, length-drop 28 output)
+
+  whole-back : writtenBody whole ≡ body
+  unfolding writtenBody sameRun
+  whole-back =
+      let n : 28 ≤ length whole = omega (arith, whole-long) in
+      rw (le-leb 28 (length whole) n) (take-at body rest 24 long)
+
+  whole-holds : Holding output whole body
+  whole-holds =
+      record {
+        head = refl;
+        client = take-append-le 8 body rest (omega arith);
+        server =
+            let n : length (drop 8 body) ≡ 16 = omega (arith, length-drop 8 body) in
+            ap (take 16) (drop-append-le 8 body rest (omega arith)) ∙ take-at (drop 8 body) rest 16 n;
+        rest = drop-at body rest 24 long;
+        long = whole-long;
+        back = whole-back;
+      }
+
+  option-holds : Holding output (outputAfter 0 (optionHead ++ body) output) body
+  option-holds = rw after-is whole-holds
+
+-- an output of 28 bytes and an address, or a body of 24, are taken
+fresh-taken : (output address : List ℕ) → 28 ≤ length output → AnAddress address → freshRefusal output address ≡ 0
+unfolding freshRefusal
+fresh-taken output address room from = rw (le-ltb (length output) 28 room, address-true address from)
+
+kept-taken : (body output : List ℕ) → 28 ≤ length output → length body ≡ 24 → keptRefusal output body ≡ 0
+unfolding keptRefusal
+kept-taken body output room long = rw (le-ltb (length output) 28 room, long)
 
 module _ (m : CookieMethod) (eight : EightBytes m) (secret : Secret) (clock : ℕ) (address client : List ℕ) (long : length client ≡ 8) where
   length-front : length (freshFront m clock) ≡ 8
@@ -55,26 +95,18 @@ module _ (m : CookieMethod) (eight : EightBytes m) (secret : Secret) (clock : �
   length-body : length (client ++ freshServer m secret clock address client) ≡ 24
   length-body = omega (arith, length-append client (freshServer m secret clock address client), length-server)
 
-  fresh-back : (output : List ℕ) → freshRefusal output address ≡ 0
-      → writtenBody (outputAfter (freshRefusal output address) (freshOption m secret clock address client) output) ≡ client ++ freshServer m secret clock address client
+  fresh-holds : (output : List ℕ) → 28 ≤ length output → AnAddress address
+      → Holding output (outputAfter (freshRefusal output address) (freshOption m secret clock address client) output)
+      (client ++ freshServer m secret clock address client)
   unfolding freshOption
-  fresh-back output taken = rw taken (option-back (client ++ freshServer m secret clock address client) output length-body)
+  fresh-holds output room from = rw (fresh-taken output address room from) (option-holds (client ++ freshServer m secret clock address client) output length-body room)
 
--- an output of 28 bytes and an address, or a body of 24, are taken
-fresh-taken : (output address : List ℕ) → 28 ≤ length output → AnAddress address → freshRefusal output address ≡ 0
-unfolding freshRefusal
-fresh-taken output address room from = rw (le-ltb (length output) 28 room, address-true address from)
-
-kept-taken : (body output : List ℕ) → 28 ≤ length output → length body ≡ 24 → keptRefusal output body ≡ 0
-unfolding keptRefusal
-kept-taken body output room long = rw (le-ltb (length output) 28 room, long)
-
-pub read-back : ReadBack
+pub written-whole : WrittenWhole
 unfolding keptOption
-read-back =
+written-whole =
     record {
-      fresh = λ m eight secret clock address client output room from long. fresh-back m eight secret clock address client long output (fresh-taken output address room from);
-      kept = λ body output room long. rw (kept-taken body output room long) (option-back body output long);
+      fresh = λ m eight secret clock address client output room from long. fresh-holds m eight secret clock address client long output room from;
+      kept = λ body output room long. rw (kept-taken body output room long) (option-holds body output long room);
     }
 
 -- ---- a fresh cookie is good
@@ -130,16 +162,13 @@ module _ (made checked : ℕ) (early : made ≤ checked + 300) (late : checked �
 module _ (m : CookieMethod) (eight : EightBytes m) (secret : Secret) (secrets : Secrets) (mode : Mode) (on : mode ≡ Disabled → ⊥)
     (made checked : ℕ) (early : made ≤ checked + 300) (late : checked ≤ made + 3600)
     (address client output : List ℕ) (room : 28 ≤ length output) (from : AnAddress address) (long : length client ≡ 8) where
-  taken : freshRefusal output address ≡ 0
-  taken = fresh-taken output address room from
-
   abbrev stamp : ℕ
   stamp = made % 2 ^ 32
 
   matched-good : (which : Which) → MatchedBy m secrets address (body m eight secret stamp address client long) which
       → JudgedGood m secret secrets mode made checked address client output which
   matched-good which hash =
-      rw (fresh-back m eight secret stamp address client long output taken)
+      rw (fresh-holds m eight secret stamp address client long output room from .back)
       (good-exactly-when m mode on secrets (checked % 2 ^ 32) address (body m eight secret stamp address client long) (subℕ checked made) which .1 record {
         from = from;
         long = length-body m eight secret stamp address client long;
@@ -174,6 +203,6 @@ fresh-is-good m eight secret secrets mode on made checked early late address cli
     fresh-good m eight secret secrets mode on made checked early late address client output room from long
 
 -- SipHash-2-4 gives eight bytes
-pub siphash-eight : EightBytes sipHashMethod
+pub siphash-eight : SipHashEight
 unfolding sipHash24Bytes
 siphash-eight secret message = length-leBytes 8 (sipHash24 secret message)

@@ -45,11 +45,11 @@ module _ (output body : List ℕ) where
   kept-no-room short = let e : 1 ≡ keptRefusal output body = rw (lt-ltb (length output) 28 short) in (e, stays output (keptOption body) 0 (keptRefusal output body) e)
 
   pub kept-no-body : 28 ≤ length output → (length body ≡ 24 → ⊥)
-      → (10 ≡ keptRefusal output body) × (output ≡ outputAfter (keptRefusal output body) (keptOption body) output)
+      → (100 ≡ keptRefusal output body) × (output ≡ outputAfter (keptRefusal output body) (keptOption body) output)
   unfolding keptRefusal
   kept-no-body room other =
-      let e : 10 ≡ keptRefusal output body = rw (le-ltb (length output) 28 room, ne-eqb (length body) 24 other) in
-      (e, stays output (keptOption body) 9 (keptRefusal output body) e)
+      let e : 100 ≡ keptRefusal output body = rw (le-ltb (length output) 28 room, ne-eqb (length body) 24 other) in
+      (e, stays output (keptOption body) 99 (keptRefusal output body) e)
 
 -- ---- an output that is written
 
@@ -100,9 +100,11 @@ module _ (output body two : List ℕ) (room : 28 ≤ length output) (long : leng
   pub kept-done : (0 ≡ keptRefusal output body) × (two ≡ outputAfter (keptRefusal output body) (keptOption body) output)
   unfolding keptRefusal keptOption
   kept-done =
-      let none : keptRefusal output body ≡ 0 = rw (le-ltb (length output) 28 room, eq-eqb (length body) 24 long) in (
+      let none : keptRefusal output body ≡ 0 = rw (le-ltb (length output) 28 room, eq-eqb (length body) 24 long) in
+      let n28 : length (optionHead ++ body) ≡ 28 = omega (arith, length-append optionHead body) in (
         sym none,
-        done ∙ ap (λ (l : List ℕ). optionHead ++ l ++ drop 28 output) whole-body ∙ sym (ap (λ (k : ℕ). outputAfter k (keptOption body) output) none),
+        done ∙ ap (λ (l : List ℕ). optionHead ++ l ++ drop 28 output) whole-body ∙ ap (λ (k : ℕ). optionHead ++ body ++ drop k output) (sym n28)
+            ∙ sym (ap (λ (k : ℕ). outputAfter k (keptOption body) output) none),
       )
 
 -- bytes 0 to 7 of a fresh server cookie
@@ -132,7 +134,14 @@ module _ (output address client two : List ℕ) (secret : Secret) (clock : ℕ) 
   client-is : leBytes 8 w0 ≡ client
   client-is = first-is ∙ take-all 8 client (omega arith)
 
-  option-is : optionHead ++ (leBytes 8 w0 ++ (leBytes 8 w1 ++ leBytes 8 hash)) ≡ freshOption sipHashMethod secret clock address client
+  abbrev words : List ℕ
+  words = optionHead ++ (leBytes 8 w0 ++ (leBytes 8 w1 ++ leBytes 8 hash))
+
+  length-words : length words ≡ 28
+  unfolding leBytes
+  length-words = refl
+
+  option-is : words ≡ freshOption sipHashMethod secret clock address client
   unfolding freshOption freshServer sipHash24Bytes
   option-is = rw (hashes, client-is, second-is) refl
 
@@ -142,7 +151,7 @@ module _ (output address client two : List ℕ) (secret : Secret) (clock : ℕ) 
   fresh-done =
       let none : freshRefusal output address ≡ 0 = rw (le-ltb (length output) 28 room, ← is-a, not-false t yes′) in (
         sym none,
-        done ∙ ap (λ (l : List ℕ). l ++ drop 28 output) option-is
+        done ∙ ap (λ (k : ℕ). words ++ drop k output) (sym length-words) ∙ ap (λ (l : List ℕ). l ++ drop (length l) output) option-is
             ∙ sym (ap (λ (k : ℕ). outputAfter k (freshOption sipHashMethod secret clock address client) output) none),
       )
 

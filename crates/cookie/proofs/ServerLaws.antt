@@ -31,8 +31,9 @@ use Rattle.secret.specs.declared.Secrets.the-variants.{One, Two}
 use Rattle.secret.specs.Secrets.{generatingOf, otherOf}
 use Rattle.siphash.specs.SipHash.{sipHash24, sipHash24Bytes}
 use Rattle.cookie.proofs.BodyLaws.{judge-matching}
+use Rattle.cookie.specs.Match.{matchOf}
 use Rattle.cookie.specs.Serial.{age}
-use Rattle.cookie.specs.ServerCookie.{CookieMethod, Finding, sipHashMethod, matches, matching, isTimely, byTime, byHash, judgeBody, verdict, answer, judgement, checkingRefusal, finding, matchOf, isDisabled, isAddress, isBody}
+use Rattle.cookie.specs.ServerCookie.{CookieMethod, Finding, sipHashMethod, matches, matching, isTimely, byTime, byHash, judgeBody, verdict, answer, judgement, checkingRefusal, finding, isDisabled, isAddress, isBody}
 use Rattle.cookie.specs.ServerCookie.Answer.{refused, found}
 use Rattle.cookie.specs.ServerCookie.Finding.{ignored, good, bad}
 use Rattle.cookie.specs.declared.server_cookie.Match.{Match}

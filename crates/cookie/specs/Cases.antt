@@ -12,7 +12,7 @@ use Rattle.secret.specs.declared.Secrets.the-variants.{One, Two}
 use Rattle.secret.specs.Secret.{secretOf}
 use Rattle.cookie.specs.CookieOption.{freshOption, freshRefusal, keptOption, keptRefusal, outputAfter, writtenBody, writtenNumber}
 use Rattle.cookie.specs.PCases.{s1}
-use Rattle.cookie.specs.ReplyTable.{Owed, _carrying_, replyOwed, owedOf}
+use Rattle.cookie.specs.ReplyTable.{Owed, _carrying_, replyOwed, owedOf, carriedOption}
 use Rattle.cookie.specs.ReplyTable.Sent.{serve, truncate, error}
 use Rattle.cookie.specs.Serial.{age}
 use Rattle.cookie.specs.ServerCookie.{Answer, Finding, CookieMethod, sipHashMethod, judgement, checkingRefusal, finding, answerOf}
@@ -24,7 +24,7 @@ use Rattle.cookie.specs.declared.Mode.the-variants.{Disabled, Enabled, E
 use Rattle.cookie.specs.declared.Judged.the-variants as judged-as
 use Rattle.cookie.specs.declared.Written.the-variants as written-as
 use Rattle.cookie.specs.declared.Reason.the-variants.{Method, Hash, Time}
-use Rattle.cookie.specs.declared.Refusal.the-variants.{Output, Address, Body}
+use Rattle.cookie.specs.declared.Refusal.the-variants.{Output, Address, Body, NotKept}
 use Rattle.cookie.specs.declared.Verdict.the-variants.{Ignored, Absent, ClientOnly, Bad, Good}
 use Rattle.cookie.specs.declared.Action.the-variants.{Serve, BadCookie, Truncate}
 use Rattle.cookie.specs.declared.Which.{Which}
@@ -54,9 +54,18 @@ to secrets clock body = judgement sipHashMethod Enabled secrets clock address bo
 abbrev pub from : Mode → List ℕ → List ℕ → Answer
 from mode where′ body = judgement sipHashMethod mode (One s1) second where′ body
 
+-- P5's address, IPv6
+abbrev pub six : List ℕ
+six = printed 16 0x20010db80220000159ded0f4876982b8
+
 -- n bytes, all 7
 abbrev pub sevens : ℕ → List ℕ
 sevens n = replicate n 7
+
+-- n numbers that count up from one
+abbrev pub upTo : ℕ → ℕ → List ℕ
+upTo at zero = []
+upTo at (suc n) = at ∷ upTo (suc at) n
 
 -- the reasons
 pub record ReasonsHold : Type 0 where
@@ -66,6 +75,8 @@ pub record ReasonsHold : Type 0 where
   pub version-0 : to (One s1) second (printed 24 0x2464c4abcf10c957000000005cf79f1129b715bd0a88999c) ≡ found (bad 1)
   pub version-2 : to (One s1) second (printed 24 0x2464c4abcf10c957020000005cf79f116187d0e51e7646e7) ≡ found (bad 1)
   pub version-240 : to (One s1) second (printed 24 0x2464c4abcf10c957f00000005cf79f114da1e5af928a7ccf) ≡ found (bad 1)
+  pub every-length : map (λ (n : ℕ). to (One s1) second (take n (cookie ++ cookie))) (upTo 16 25)
+      ≡ replicate 8 (found (bad 1)) ++ (found (good (pos 0) Generating) ∷ replicate 16 (found (bad 1)))
   pub shorter : to (One s1) second (take 23 cookie) ≡ found (bad 1)
   pub longer : to (One s1) second (cookie ++ (0 ∷ [])) ≡ found (bad 1)
   pub least : to (One s1) second (take 16 cookie) ≡ found (bad 1)
@@ -77,7 +88,7 @@ pub record ReasonsHold : Type 0 where
   pub first-of-hash : to (One s1) second (printed 24 0x2464c4abcf10c957010000005cf79f111e8130c3eee29480) ≡ found (bad 2)
   pub last-of-hash : to (One s1) second (printed 24 0x2464c4abcf10c957010000005cf79f111f8130c3eee29481) ≡ found (bad 2)
   pub address-differs : from Enabled (printed 4 0xc6336465) cookie ≡ found (bad 2)
-  pub six : from Enabled (printed 16 0x20010db80220000159ded0f4876982b8) (printed 24 0x2464c4abcf10c957010000005cf79f11ece513b801b80286) ≡ found (good (pos 0) Generating)
+  pub six : from Enabled six (printed 24 0x2464c4abcf10c957010000005cf79f11ece513b801b80286) ≡ found (good (pos 0) Generating)
   pub six-differs : from Enabled (printed 16 0x20010db80220000159ded0f4876982b9) (printed 24 0x2464c4abcf10c957010000005cf79f11ece513b801b80286) ≡ found (bad 2)
   pub secret-differs : to (One another) second cookie ≡ found (bad 2)
   -- reserved bytes are hashed and never tested
@@ -127,6 +138,8 @@ pub record RefusalsHold : Type 0 where
   pub address-enforced : from Enforced (sevens 5) cookie ≡ refused 2
   pub address-disabled : from Disabled (sevens 5) cookie ≡ refused 2
   pub address-first : from Enabled (sevens 5) (take 7 cookie) ≡ refused 2
+  -- Enforced judges as Enabled does
+  pub alike : (m : CookieMethod) (s : Secrets) (c : ℕ) (a b : List ℕ) → judgement m Enforced s c a b ≡ judgement m Enabled s c a b
   -- mode Disabled looks at no body
   pub disabled-cookie : from Disabled address cookie ≡ found ignored
   pub disabled-body : from Disabled address (take 7 cookie) ≡ found ignored
@@ -144,63 +157,49 @@ pub record AgesHold : Type 0 where
   pub round-new : age 0xffffffff 0 ≡ negsuc 0
   pub p3 : age 0x5cf7a9ac 0x5cf78f71 ≡ pos 6715
 
--- each cell of the reply table
+-- each cell of the reply table, for every QDCOUNT, reason, age and body
 pub record RepliesHold : Type 0 where
-  -- Disabled: served with no option, whatever came
-  pub disabled-ignored : replyOwed Disabled 1 ignored cookie ≡ serve carrying Nothing
-  pub disabled-absent : replyOwed Disabled 1 absent cookie ≡ serve carrying Nothing
-  pub disabled-client-only : replyOwed Disabled 1 clientOnly cookie ≡ serve carrying Nothing
-  pub disabled-bad : replyOwed Disabled 1 (bad 2) cookie ≡ serve carrying Nothing
-  pub disabled-good : replyOwed Disabled 1 (good (pos 0) Generating) cookie ≡ serve carrying Nothing
-  -- Enabled
-  pub enabled-ignored : replyOwed Enabled 1 ignored cookie ≡ serve carrying Nothing
-  pub enabled-absent : replyOwed Enabled 1 absent [] ≡ serve carrying Nothing
-  pub enabled-client-only : replyOwed Enabled 1 clientOnly (take 8 cookie) ≡ serve carrying Fresh
-  pub enabled-method : replyOwed Enabled 1 (bad 1) cookie ≡ error 23 carrying Fresh
-  pub enabled-hash : replyOwed Enabled 1 (bad 2) cookie ≡ error 23 carrying Fresh
-  pub enabled-time : replyOwed Enabled 1 (bad 3) cookie ≡ error 23 carrying Fresh
-  pub enabled-kept : replyOwed Enabled 1 (good (pos 0) Generating) cookie ≡ serve carrying Kept
-  pub enabled-kept-last : replyOwed Enabled 1 (good (pos 1800) Generating) cookie ≡ serve carrying Kept
-  pub enabled-old : replyOwed Enabled 1 (good (pos 1801) Generating) cookie ≡ serve carrying Fresh
-  pub enabled-ahead : replyOwed Enabled 1 (good (negsuc 0) Generating) cookie ≡ serve carrying Fresh
-  pub enabled-other : replyOwed Enabled 1 (good (pos 0) Other) cookie ≡ serve carrying Fresh
-  pub enabled-reserved-one : replyOwed Enabled 1 (good (pos 0) Generating) (printed 24 0x2464c4abcf10c957010100005cf79f116d707c989046e3c9) ≡ serve carrying Fresh
-  pub enabled-reserved-two : replyOwed Enabled 1 (good (pos 0) Generating) (printed 24 0x2464c4abcf10c957010001005cf79f114f8c59f70d755fd1) ≡ serve carrying Fresh
-  pub enabled-reserved-three : replyOwed Enabled 1 (good (pos 0) Generating) (printed 24 0x2464c4abcf10c957010000015cf79f11737c77e34ce6b548) ≡ serve carrying Fresh
-  -- Enforced
-  pub enforced-ignored : replyOwed Enforced 1 ignored cookie ≡ serve carrying Nothing
-  pub enforced-absent : replyOwed Enforced 1 absent [] ≡ truncate carrying Nothing
-  pub enforced-client-only : replyOwed Enforced 1 clientOnly (take 8 cookie) ≡ error 23 carrying Fresh
-  pub enforced-method : replyOwed Enforced 1 (bad 1) cookie ≡ error 23 carrying Fresh
-  pub enforced-hash : replyOwed Enforced 1 (bad 2) cookie ≡ error 23 carrying Fresh
-  pub enforced-time : replyOwed Enforced 1 (bad 3) cookie ≡ error 23 carrying Fresh
-  pub enforced-kept : replyOwed Enforced 1 (good (pos 1800) Generating) cookie ≡ serve carrying Kept
-  pub enforced-old : replyOwed Enforced 1 (good (pos 1801) Generating) cookie ≡ serve carrying Fresh
-  pub enforced-other : replyOwed Enforced 1 (good (pos 0) Other) cookie ≡ serve carrying Fresh
-  -- QDCOUNT 0 changes Client only alone
-  pub no-question-client-only : replyOwed Enforced 0 clientOnly (take 8 cookie) ≡ serve carrying Fresh
-  pub no-question-enabled : replyOwed Enabled 0 clientOnly (take 8 cookie) ≡ serve carrying Fresh
-  pub no-question-absent : replyOwed Enforced 0 absent [] ≡ truncate carrying Nothing
-  pub no-question-bad : replyOwed Enforced 0 (bad 2) cookie ≡ error 23 carrying Fresh
-  pub no-question-good : replyOwed Enforced 0 (good (pos 0) Generating) cookie ≡ serve carrying Kept
-  pub no-question-disabled : replyOwed Disabled 0 clientOnly (take 8 cookie) ≡ serve carrying Nothing
+  pub disabled : (q : ℕ) (v : Finding) (b : List ℕ) → replyOwed Disabled q v b ≡ serve carrying Nothing
+  pub enabled-ignored : (q : ℕ) (b : List ℕ) → replyOwed Enabled q ignored b ≡ serve carrying Nothing
+  pub enabled-absent : (q : ℕ) (b : List ℕ) → replyOwed Enabled q absent b ≡ serve carrying Nothing
+  pub enabled-client : (q : ℕ) (b : List ℕ) → replyOwed Enabled q clientOnly b ≡ serve carrying Fresh
+  pub enabled-bad : (q n : ℕ) (b : List ℕ) → replyOwed Enabled q (bad n) b ≡ error 23 carrying Fresh
+  pub enforced-ignored : (q : ℕ) (b : List ℕ) → replyOwed Enforced q ignored b ≡ serve carrying Nothing
+  pub enforced-absent : (q : ℕ) (b : List ℕ) → replyOwed Enforced q absent b ≡ truncate carrying Nothing
+  pub enforced-client : (q : ℕ) (b : List ℕ) → replyOwed Enforced (suc q) clientOnly b ≡ error 23 carrying Fresh
+  pub enforced-client-0 : (b : List ℕ) → replyOwed Enforced 0 clientOnly b ≡ serve carrying Fresh
+  pub enforced-bad : (q n : ℕ) (b : List ℕ) → replyOwed Enforced q (bad n) b ≡ error 23 carrying Fresh
+  pub good-alike : (q r : ℕ) (a : ℤ) (w : Which) (b : List ℕ) → replyOwed Enforced q (good a w) b ≡ replyOwed Enabled r (good a w) b
+  -- kept or fresh
+  pub good-other : (q : ℕ) (a : ℤ) (b : List ℕ) → replyOwed Enabled q (good a Other) b ≡ serve carrying Fresh
+  pub kept-first : replyOwed Enabled 1 (good (pos 0) Generating) cookie ≡ serve carrying Kept
+  pub kept-last : replyOwed Enabled 1 (good (pos 1800) Generating) cookie ≡ serve carrying Kept
+  pub too-old : replyOwed Enabled 1 (good (pos 1801) Generating) cookie ≡ serve carrying Fresh
+  pub ahead : replyOwed Enabled 1 (good (negsuc 0) Generating) cookie ≡ serve carrying Fresh
+  pub reserved-one : replyOwed Enabled 1 (good (pos 0) Generating) (printed 24 0x2464c4abcf10c957010100005cf79f116d707c989046e3c9) ≡ serve carrying Fresh
+  pub reserved-two : replyOwed Enabled 1 (good (pos 0) Generating) (printed 24 0x2464c4abcf10c957010001005cf79f114f8c59f70d755fd1) ≡ serve carrying Fresh
+  pub reserved-three : replyOwed Enabled 1 (good (pos 0) Generating) (printed 24 0x2464c4abcf10c957010000015cf79f11737c77e34ce6b548) ≡ serve carrying Fresh
+  pub no-reserved : replyOwed Enabled 1 (good (pos 0) Generating) (take 11 cookie) ≡ serve carrying Fresh
 
 -- options written and read back
 pub record OptionsHold : Type 0 where
-  -- 1 before 2, and 1 before 10
+  -- 1 before the others
   pub room : freshRefusal (sevens 28) address ≡ 0
   pub no-room : freshRefusal (sevens 27) address ≡ 1
   pub no-address : freshRefusal (sevens 28) (sevens 5) ≡ 2
   pub neither : freshRefusal (sevens 27) (sevens 5) ≡ 1
   pub kept-room : keptRefusal (sevens 28) cookie ≡ 0
   pub kept-no-room : keptRefusal (sevens 27) cookie ≡ 1
-  pub kept-short : keptRefusal (sevens 28) (take 23 cookie) ≡ 10
-  pub kept-long : keptRefusal (sevens 28) (cookie ++ (0 ∷ [])) ≡ 10
+  pub kept-short : keptRefusal (sevens 28) (take 23 cookie) ≡ 100
+  pub kept-long : keptRefusal (sevens 28) (cookie ++ (0 ∷ [])) ≡ 100
   pub kept-neither : keptRefusal (sevens 27) (take 23 cookie) ≡ 1
-  -- 28 bytes are written, those beyond stay, and on refusal all stay
+  -- 28 bytes are written, those beyond stay, and on refusal all stay; P5 by the whole way
   pub fresh : outputAfter 0 (freshOption sipHashMethod s1 second address (take 8 cookie)) (sevens 30) ≡ printed 30 0x000a00182464c4abcf10c957010000005cf79f111f8130c3eee294800707
   pub kept : outputAfter 0 (keptOption cookie) (sevens 30) ≡ printed 30 0x000a00182464c4abcf10c957010000005cf79f111f8130c3eee294800707
-  pub stays : outputAfter 2 (keptOption cookie) (sevens 30) ≡ sevens 30
+  pub stays : (n : ℕ) (option output : List ℕ) → outputAfter (suc n) option output ≡ output
+  pub fresh-six : (let output = sevens 30 in outputAfter (freshRefusal output six) (freshOption sipHashMethod another 0x5cf7c579 six (printed 8 0x22681ab97d52c298)) output)
+      ≡ printed 30 0x000a001822681ab97d52c298010000005cf7c57926556bd0934c72f80707
+  pub nothing : (output : List ℕ) → outputAfter 0 (carriedOption sipHashMethod s1 second address cookie Nothing) output ≡ output
   -- read back: the whole head is compared, and 28 bytes must be there
   pub back : writtenBody (printed 30 0x000a00182464c4abcf10c957010000005cf79f111f8130c3eee294800707) ≡ cookie
   pub back-short : writtenBody (printed 27 0x000a00182464c4abcf10c957010000005cf79f111f8130c3eee294) ≡ []
@@ -223,6 +222,7 @@ pub record NamesHold : Type 0 where
   pub output : writtenNumber (written-as.Refused Output) ≡ 1
   pub no-address : writtenNumber (written-as.Refused Address) ≡ 2
   pub no-body : writtenNumber (written-as.Refused Body) ≡ 10
+  pub not-kept : writtenNumber (written-as.Refused NotKept) ≡ 100
   pub done : writtenNumber written-as.Done ≡ 0
   pub judged-address : answerOf (judged-as.Refused Address) ≡ refused 2
   pub judged-body : answerOf (judged-as.Refused Body) ≡ refused 10
@@ -232,10 +232,6 @@ pub record NamesHold : Type 0 where
   pub truncated : owedOf (record { action = Truncate; option = Nothing }) ≡ truncate carrying Nothing
 
 -- lengths, all of them to 48: address and body of a checking, address and output of a making, output of a kept option
-abbrev pub upTo : ℕ → ℕ → List ℕ
-upTo at zero = []
-upTo at (suc n) = at ∷ upTo (suc at) n
-
 abbrev pub times : ℕ → ℕ → List ℕ
 times n x = replicate n x
 
@@ -247,18 +243,3 @@ pub record LengthsHold : Type 0 where
   pub kept-outputs : map (λ (n : ℕ). keptRefusal (sevens n) cookie) (upTo 0 48) ≡ times 28 1 ++ times 20 0
   pub large : freshRefusal (sevens 512) address ≡ 0
   pub kept-large : keptRefusal (sevens 512) cookie ≡ 0
-
--- the same for all: no mode but Disabled changes an answer; a refusal leaves the output; the table for every QDCOUNT, age and body
-pub record ForAllHold : Type 0 where
-  pub alike : (m : CookieMethod) (s : Secrets) (c : ℕ) (a b : List ℕ) → judgement m Enforced s c a b ≡ judgement m Enabled s c a b
-  pub stays : (n : ℕ) (option output : List ℕ) → outputAfter (suc n) option output ≡ output
-  pub disabled : (q : ℕ) (v : Finding) (b : List ℕ) → replyOwed Disabled q v b ≡ serve carrying Nothing
-  pub enabled-absent : (q : ℕ) (b : List ℕ) → replyOwed Enabled q absent b ≡ serve carrying Nothing
-  pub enabled-client : (q : ℕ) (b : List ℕ) → replyOwed Enabled q clientOnly b ≡ serve carrying Fresh
-  pub enabled-bad : (q n : ℕ) (b : List ℕ) → replyOwed Enabled q (bad n) b ≡ error 23 carrying Fresh
-  pub enforced-absent : (q : ℕ) (b : List ℕ) → replyOwed Enforced q absent b ≡ truncate carrying Nothing
-  pub enforced-client : (q : ℕ) (b : List ℕ) → replyOwed Enforced (suc q) clientOnly b ≡ error 23 carrying Fresh
-  pub enforced-client-0 : (b : List ℕ) → replyOwed Enforced 0 clientOnly b ≡ serve carrying Fresh
-  pub enforced-bad : (q n : ℕ) (b : List ℕ) → replyOwed Enforced q (bad n) b ≡ error 23 carrying Fresh
-  pub good-alike : (q r : ℕ) (a : ℤ) (w : Which) (b : List ℕ) → replyOwed Enforced q (good a w) b ≡ replyOwed Enabled r (good a w) b
-  pub good-other : (q : ℕ) (a : ℤ) (b : List ℕ) → replyOwed Enabled q (good a Other) b ≡ serve carrying Fresh

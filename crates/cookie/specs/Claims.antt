@@ -1,9 +1,9 @@
--- Claims about server cookies, each over any method: when a cookie is good (demand 2), what its age is, how long a fresh one is good, and what is read
--- back of a written option. Assumes nothing.
+-- Claims about server cookies, each over any method: when a cookie is good (demand 2), what its age is, how long a fresh one is good, and what is written
+-- and read back. Assumes nothing.
 use Prim.Native.Nat.{ℕ, suc, _+_, _%_, _^_, _≤_, _<_}
 use mathlib.Core.Path.{_≡_}
 use mathlib.Core.Bool.{true}
-use mathlib.Core.List.{List, _++_}
+use mathlib.Core.List.{List, [], _∷_, _++_}
 use mathlib.Core.Option.{some}
 use lib.IntN.{ℤ, pos, negsuc, subℕ}
 use lib.ListN.{length, take, drop, getD}
@@ -14,7 +14,7 @@ use Rattle.secret.specs.declared.Secrets.{Secrets}
 use Rattle.secret.specs.Secrets.{generatingOf, otherOf}
 use Rattle.cookie.specs.CookieOption.{freshOption, freshServer, freshRefusal, keptOption, keptRefusal, outputAfter, writtenBody}
 use Rattle.cookie.specs.Serial.{age}
-use Rattle.cookie.specs.ServerCookie.{CookieMethod, judgement}
+use Rattle.cookie.specs.ServerCookie.{CookieMethod, sipHashMethod, judgement}
 use Rattle.cookie.specs.ServerCookie.Answer.{found}
 use Rattle.cookie.specs.ServerCookie.Finding.{good}
 use Rattle.cookie.specs.declared.Mode.{Mode}
@@ -102,12 +102,25 @@ FreshIsGood =
     → (address client output : List ℕ) → 28 ≤ length output → AnAddress address → length client ≡ 8
     → FreshGood m secret secrets mode made checked address client output
 
--- ---- what is read back is what was written
+-- SipHash-2-4 is such a method
+abbrev pub SipHashEight : Type 0
+SipHashEight = EightBytes sipHashMethod
 
-pub record ReadBack : Type 0 where
+-- ---- what is written, by its places, and what is read back of it
+
+-- an output of 28 bytes or more that an option of this body was written into: the head, the body, and the rest as it was
+pub record Holding (output written body : List ℕ) : Type 0 where
+  pub head : take 4 written ≡ 0x00 ∷ 0x0a ∷ 0x00 ∷ 0x18 ∷ []
+  pub client : take 8 (drop 4 written) ≡ take 8 body
+  pub server : take 16 (drop 12 written) ≡ drop 8 body
+  pub rest : drop 28 written ≡ drop 28 output
+  pub long : length written ≡ length output
+  pub back : writtenBody written ≡ body
+
+pub record WrittenWhole : Type 0 where
   pub fresh : (m : CookieMethod) → EightBytes m → (secret : Secret) (clock : ℕ) (address client output : List ℕ)
       → 28 ≤ length output → AnAddress address → length client ≡ 8
-      → writtenBody (outputAfter (freshRefusal output address) (freshOption m secret clock address client) output)
-      ≡ client ++ freshServer m secret clock address client
+      → Holding output (outputAfter (freshRefusal output address) (freshOption m secret clock address client) output)
+      (client ++ freshServer m secret clock address client)
   pub kept : (body output : List ℕ) → 28 ≤ length output → length body ≡ 24
-      → writtenBody (outputAfter (keptRefusal output body) (keptOption body) output) ≡ body
+      → Holding output (outputAfter (keptRefusal output body) (keptOption body) output) body

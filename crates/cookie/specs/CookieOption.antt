@@ -44,16 +44,16 @@ freshRefusal output address =
     ∷ 2 when not (isAddress address)
     ∷ [])
 
--- those of a kept one. A body that is not 24 bytes holds no server cookie that could be good
+-- those of a kept one; 100 is ours
 unfoldable pub keptRefusal : List ℕ → List ℕ → ℕ
 keptRefusal output body =
     first (1 when ltb (length output) 28
-    ∷ 10 when not (eqb (length body) 24)
+    ∷ 100 when not (eqb (length body) 24)
     ∷ [])
 
--- the output afterwards: the option and the bytes beyond 28 as they were; on refusal all as it was
+-- the output afterwards: the option, and the bytes beyond it as they were; on refusal all as it was
 abbrev pub outputAfter : ℕ → List ℕ → List ℕ → List ℕ
-outputAfter zero option output = option ++ drop 28 output
+outputAfter zero option output = option ++ drop (length option) output
 outputAfter (suc n) option output = output
 
 -- a written option read back: its body, and nothing for what does not start with the head or is too short

@@ -1,6 +1,7 @@
 pub mod Cases
 pub mod Claims
 pub mod CookieOption
+pub mod Match
 pub mod PCases
 pub mod ReplyTable
 pub mod Serial

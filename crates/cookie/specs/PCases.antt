@@ -1,6 +1,7 @@
 -- Document 01's cases P1 to P8 in one table under one claim. A row is a request in mode Enabled with one question: the secrets, the clock, the client's
 -- address and the COOKIE body that came; then the answer, the reply and the 28 bytes of its option. Bytes stand as RFC 9018's appendix prints them
--- (appendix B of source 001); those of the clocks of P7 and of P8's cookie, which no paper prints, are what OpenSSL's SIPHASH gives. Assumes nothing.
+-- (appendix B of source 001); those at the clocks of P7, of P8's cookie and at P3's own second, which no paper prints, are what OpenSSL's SIPHASH gives.
+-- Assumes nothing.
 use Prim.Native.Nat.{ℕ}
 use mathlib.Core.Path.{_≡_}
 use mathlib.Core.List.{List, [], _∷_, map}
@@ -27,7 +28,7 @@ pub record Case : Type 0 where
   pub body : List ℕ
   pub answer : Answer
   pub owed : Owed
-  pub option : List ℕ
+  pub bytes : List ℕ
 
 -- document 01's S1
 unfoldable pub s1 : Secret
@@ -44,7 +45,7 @@ pCases =
       body = printed 8 0x2464c4abcf10c957;
       answer = found clientOnly;
       owed = serve carrying Fresh;
-      option = printed 28 0x000a00182464c4abcf10c957010000005cf79f111f8130c3eee29480;
+      bytes = printed 28 0x000a00182464c4abcf10c957010000005cf79f111f8130c3eee29480;
     }
     ∷
     -- P2: B.2. P1's cookie at the age of 2,400: good, not kept; fresh
@@ -55,7 +56,7 @@ pCases =
       body = printed 24 0x2464c4abcf10c957010000005cf79f111f8130c3eee29480;
       answer = found (good (pos 2400) Generating);
       owed = serve carrying Fresh;
-      option = printed 28 0x000a00182464c4abcf10c957010000005cf7a871d4a564a1442aca77;
+      bytes = printed 28 0x000a00182464c4abcf10c957010000005cf7a871d4a564a1442aca77;
     }
     ∷
     -- P3 and P4: B.3. The hash is right, with reserved bytes set, and the cookie is 6,715 seconds old; fresh
@@ -66,7 +67,7 @@ pCases =
       body = printed 24 0xfc93fc62807ddb8601abcdef5cf78f71a314227b6679ebf5;
       answer = found (bad 3);
       owed = error 23 carrying Fresh;
-      option = printed 28 0x000a0018fc93fc62807ddb86010000005cf7a9acf73a7810aca2381e;
+      bytes = printed 28 0x000a0018fc93fc62807ddb86010000005cf7a9acf73a7810aca2381e;
     }
     ∷
     -- P3's hash is right: at its own second it is good, and not kept for its reserved bytes
@@ -77,7 +78,7 @@ pCases =
       body = printed 24 0xfc93fc62807ddb8601abcdef5cf78f71a314227b6679ebf5;
       answer = found (good (pos 0) Generating);
       owed = serve carrying Fresh;
-      option = printed 28 0x000a0018fc93fc62807ddb86010000005cf78f71c048b0163721f5df;
+      bytes = printed 28 0x000a0018fc93fc62807ddb86010000005cf78f71c048b0163721f5df;
     }
     ∷
     -- P5: B.4. Under the secret that made it; 144 seconds old, kept
@@ -88,7 +89,7 @@ pCases =
       body = printed 24 0x22681ab97d52c298010000005cf7c57926556bd0934c72f8;
       answer = found (good (pos 144) Generating);
       owed = serve carrying Kept;
-      option = printed 28 0x000a001822681ab97d52c298010000005cf7c57926556bd0934c72f8;
+      bytes = printed 28 0x000a001822681ab97d52c298010000005cf7c57926556bd0934c72f8;
     }
     ∷
     -- P5 and P6: B.4. The same after the rollover: good under the other secret; fresh under the generating one
@@ -99,7 +100,7 @@ pCases =
       body = printed 24 0x22681ab97d52c298010000005cf7c57926556bd0934c72f8;
       answer = found (good (pos 144) Other);
       owed = serve carrying Fresh;
-      option = printed 28 0x000a001822681ab97d52c298010000005cf7c609a6bb79d16625507a;
+      bytes = printed 28 0x000a001822681ab97d52c298010000005cf7c609a6bb79d16625507a;
     }
     ∷
     -- P7: P1's cookie, -300
@@ -110,7 +111,7 @@ pCases =
       body = printed 24 0x2464c4abcf10c957010000005cf79f111f8130c3eee29480;
       answer = found (good (negsuc 299) Generating);
       owed = serve carrying Fresh;
-      option = printed 28 0x000a00182464c4abcf10c957010000005cf79de54bf2777cadaac86a;
+      bytes = printed 28 0x000a00182464c4abcf10c957010000005cf79de54bf2777cadaac86a;
     }
     ∷
     -- -301
@@ -121,7 +122,7 @@ pCases =
       body = printed 24 0x2464c4abcf10c957010000005cf79f111f8130c3eee29480;
       answer = found (bad 3);
       owed = error 23 carrying Fresh;
-      option = printed 28 0x000a00182464c4abcf10c957010000005cf79de4690b3939c0cbbe7d;
+      bytes = printed 28 0x000a00182464c4abcf10c957010000005cf79de4690b3939c0cbbe7d;
     }
     ∷
     -- 3,600
@@ -132,7 +133,7 @@ pCases =
       body = printed 24 0x2464c4abcf10c957010000005cf79f111f8130c3eee29480;
       answer = found (good (pos 3600) Generating);
       owed = serve carrying Fresh;
-      option = printed 28 0x000a00182464c4abcf10c957010000005cf7ad21835549546c9ee74e;
+      bytes = printed 28 0x000a00182464c4abcf10c957010000005cf7ad21835549546c9ee74e;
     }
     ∷
     -- 3,601
@@ -143,7 +144,7 @@ pCases =
       body = printed 24 0x2464c4abcf10c957010000005cf79f111f8130c3eee29480;
       answer = found (bad 3);
       owed = error 23 carrying Fresh;
-      option = printed 28 0x000a00182464c4abcf10c957010000005cf7ad22c6a034f5e87b2ad2;
+      bytes = printed 28 0x000a00182464c4abcf10c957010000005cf7ad22c6a034f5e87b2ad2;
     }
     ∷
     -- 1,800: kept
@@ -154,7 +155,7 @@ pCases =
       body = printed 24 0x2464c4abcf10c957010000005cf79f111f8130c3eee29480;
       answer = found (good (pos 1800) Generating);
       owed = serve carrying Kept;
-      option = printed 28 0x000a00182464c4abcf10c957010000005cf79f111f8130c3eee29480;
+      bytes = printed 28 0x000a00182464c4abcf10c957010000005cf79f111f8130c3eee29480;
     }
     ∷
     -- 1,801: fresh
@@ -165,7 +166,7 @@ pCases =
       body = printed 24 0x2464c4abcf10c957010000005cf79f111f8130c3eee29480;
       answer = found (good (pos 1801) Generating);
       owed = serve carrying Fresh;
-      option = printed 28 0x000a00182464c4abcf10c957010000005cf7a61ab1411a7a3bf24015;
+      bytes = printed 28 0x000a00182464c4abcf10c957010000005cf7a61ab1411a7a3bf24015;
     }
     ∷
     -- P8: timestamp ffffff9c at clock 100
@@ -176,7 +177,7 @@ pCases =
       body = printed 24 0x2464c4abcf10c95701000000ffffff9c1ca2270f1570dbdd;
       answer = found (good (pos 200) Generating);
       owed = serve carrying Kept;
-      option = printed 28 0x000a00182464c4abcf10c95701000000ffffff9c1ca2270f1570dbdd;
+      bytes = printed 28 0x000a00182464c4abcf10c95701000000ffffff9c1ca2270f1570dbdd;
     }
     ∷ []
 
@@ -196,7 +197,7 @@ computed c =
       body = c .body;
       answer = answer;
       owed = owed;
-      option = carriedOption sipHashMethod (generatingOf (c .secrets)) (c .clock) (c .address) (c .body) (owed .option);
+      bytes = carriedOption sipHashMethod (generatingOf (c .secrets)) (c .clock) (c .address) (c .body) (owed .option);
     }
 
 -- the claim: the definitions give every row

@@ -26,7 +26,7 @@ pub data Sent : Type 0 where
   serve truncate : Sent
   error : ℕ → Sent
 
--- a reply and the COOKIE option that it carries
+-- a reply and the COOKIE option that it carries. The names of `Carried` are document 01's own: no option, fresh, kept
 pub record Owed : Type 0 where
   pub sent : Sent
   pub option : Carried
@@ -77,7 +77,7 @@ replyOwed Disabled qdcount v body = serve carrying Nothing
 replyOwed Enabled qdcount v body = enabledReply v (serverCookie body)
 replyOwed Enforced qdcount v body = enforcedReply qdcount v (serverCookie body)
 
--- the bytes of the option that a reply carries
+-- the bytes of the option that a reply carries, none for no option: `outputAfter` then leaves the whole output
 abbrev pub carriedOption : CookieMethod → Secret → ℕ → List ℕ → List ℕ → Carried → List ℕ
 carriedOption m secret clock address body Nothing = []
 carriedOption m secret clock address body Fresh = freshOption m secret clock address (clientCookie body)

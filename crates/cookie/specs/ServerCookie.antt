@@ -18,14 +18,12 @@ use Rattle.siphash.specs.SipHash.{sipHash24Bytes}
 use Rattle.cookie.specs.Serial.{age}
 use Rattle.cookie.specs.declared.Judged.{Judged}
 use Rattle.cookie.specs.declared.Judged.the-variants as judged-as
-use Rattle.cookie.specs.declared.server_cookie.Match.{Match}
-use Rattle.cookie.specs.declared.server_cookie.Match.the-variants.{By, Nothing}
 use Rattle.cookie.specs.declared.Mode.{Mode}
 use Rattle.cookie.specs.declared.Mode.the-variants.{Disabled, Enabled, Enforced}
 use Rattle.cookie.specs.declared.Reason.{Reason}
 use Rattle.cookie.specs.declared.Reason.the-variants.{Method, Hash, Time}
 use Rattle.cookie.specs.declared.Refusal.{Refusal}
-use Rattle.cookie.specs.declared.Refusal.the-variants.{Output, Address, Body}
+use Rattle.cookie.specs.declared.Refusal.the-variants.{Output, Address, Body, NotKept}
 use Rattle.cookie.specs.declared.Verdict.{Verdict}
 use Rattle.cookie.specs.declared.Verdict.the-variants.{Ignored, Absent, ClientOnly, Bad, Good}
 use Rattle.cookie.specs.declared.Which.{Which}
@@ -33,7 +31,8 @@ use Rattle.cookie.specs.declared.Which.the-variants.{Generating, Other}
 
 -- ---- the answers, in document 01's words and numbers
 
--- a verdict. A bad one has the number of the step that failed first: 1 method, 2 hash, 3 time
+-- a verdict: the code's `Verdict` says it by names of its own, and `finding` below gives what they mean. A bad one has the number of the step that failed
+-- first: 1 method, 2 hash, 3 time. Which secret matched (`Which`) has no number in document 01: its names, generating and other, are the code's too
 pub data Finding : Type 0 where
   ignored absent clientOnly : Finding
   bad : ℕ → Finding
@@ -44,7 +43,7 @@ pub data Answer : Type 0 where
   refused : ℕ → Answer
   found : Finding → Answer
 
--- ---- what the code's answers say
+-- ---- what the code's answers say. The cases `NamesHold` pin each
 
 abbrev pub stepOf : Reason → ℕ
 stepOf Method = 1
@@ -58,14 +57,12 @@ finding ClientOnly = clientOnly
 finding (Bad reason) = bad (stepOf reason)
 finding (Good a which) = good a which
 
-abbrev pub matchOf : Match → Option Which
-matchOf (By which) = some which
-matchOf Nothing = none
-
+-- 100 is no number of document 01's: a body that is not 24 bytes was never judged good and can't be kept
 abbrev pub refusalNumber : Refusal → ℕ
 refusalNumber Output = 1
 refusalNumber Address = 2
 refusalNumber Body = 10
+refusalNumber NotKept = 100
 
 abbrev pub answerOf : Judged → Answer
 answerOf (judged-as.Refused refusal) = refused (refusalNumber refusal)

@@ -69,7 +69,7 @@ pub fn write_kept(output: &mut [u8], body: &[u8]) -> Written
         return Written::Refused(Refusal::Output);
     }
     if body.len() != 24 {
-        return Written::Refused(Refusal::Body);
+        return Written::Refused(Refusal::NotKept);
     }
     write_words(
         output,

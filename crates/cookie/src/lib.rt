@@ -42,7 +42,7 @@ pub enum Verdict {
     Good { age: i32, secret: Which },
 }
 
-// What can't be used, by document 01's numbers: 1, 2 and 10.
+// What can't be used: document 01's refusals 1, 2 and 10, and one of our own.
 pub enum Refusal {
     // An output of less than 28 bytes.
     Output,
@@ -50,6 +50,8 @@ pub enum Refusal {
     Address,
     // A COOKIE body of an illegal length.
     Body,
+    // A body to keep that is not 24 bytes, as every good one is. Document 01 has no number for it; 100 is ours.
+    NotKept,
 }
 
 pub enum Judged {

@@ -14,8 +14,9 @@ ghost use mathlib.Core.List.{_++_};
 ghost use Prim.Native.Nat.{_≤_};
 ghost use lib.ListN.{length};
 ghost use Rattle.octets.specs.Numbers.{leBytes, be32At};
+ghost use Rattle.cookie.specs.Match.{matchOf};
 ghost use Rattle.cookie.specs.Serial.{age};
-ghost use Rattle.cookie.specs.ServerCookie.{finding, answerOf, sipHashMethod, matchOf, matches, matching, byTime, judgeBody, judgement, isDisabled, isAddress, isBody};
+ghost use Rattle.cookie.specs.ServerCookie.{finding, answerOf, sipHashMethod, matches, matching, byTime, judgeBody, judgement, isDisabled, isAddress, isBody};
 
 // The secret that matches, if one does.
 enum Match {

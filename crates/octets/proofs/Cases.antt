@@ -26,4 +26,7 @@ cases-hold =
       put-past = refl;
       fits-to-end = refl;
       fits-past = refl;
+      first-wins = refl;
+      second-alone = refl;
+      none-applies = refl;
     }

@@ -1,9 +1,10 @@
--- Cases that pin the definitions of Numbers.antt and Runs.antt, bytes and numbers written out. The number is the timestamp of RFC 9018's first vector
+-- Cases that pin the definitions of Numbers.antt, Runs.antt and Refusals.antt, bytes and numbers written out. The number is the timestamp of RFC 9018's first vector
 -- (P1 of document 01), the word that of the key in the SipHash paper, appendix A. Assumes nothing.
 use mathlib.Core.Path.{_≡_}
 use mathlib.Core.Bool.{true, false}
 use mathlib.Core.List.{[], _∷_}
 use Rattle.octets.specs.Numbers.{leNumber, leBytes, beNumber, beBytes, printed, be16At, be32At, be64At}
+use Rattle.octets.specs.Refusals.{_when_, first}
 use Rattle.octets.specs.Runs.{sameRun, fits, written}
 
 -- the claim: each definition gives what is written beside it
@@ -26,3 +27,6 @@ pub record CasesHold : Type 0 where
   pub put-past : written (1 ∷ 2 ∷ 3 ∷ 4 ∷ []) 3 (8 ∷ 9 ∷ []) ≡ 1 ∷ 2 ∷ 3 ∷ 4 ∷ []
   pub fits-to-end : fits (1 ∷ 2 ∷ 3 ∷ 4 ∷ []) 2 (8 ∷ 9 ∷ []) ≡ true
   pub fits-past : fits (1 ∷ 2 ∷ 3 ∷ 4 ∷ []) 3 (8 ∷ 9 ∷ []) ≡ false
+  pub first-wins : first (2 when true ∷ 10 when true ∷ []) ≡ 2
+  pub second-alone : first (2 when false ∷ 10 when true ∷ []) ≡ 10
+  pub none-applies : first (2 when false ∷ 10 when false ∷ []) ≡ 0

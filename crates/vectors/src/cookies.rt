@@ -53,12 +53,13 @@ fn setting_of(line: &[u8]) -> Setting {
     }
 }
 
-// The number of a refusal in document 01.
+// The number of a refusal: document 01's, and 100 for a body that can't be kept.
 fn say_refusal(refusal: Refusal) -> bool {
     match refusal {
         Refusal::Output => output::say(b"1"),
         Refusal::Address => output::say(b"2"),
         Refusal::Body => output::say(b"10"),
+        Refusal::NotKept => output::say(b"100"),
     }
 }
 
