@@ -18,6 +18,7 @@ use cookie::Reply;
 use cookie::Verdict;
 use cookie::Which;
 use cookie::Written;
+use secret::Secret;
 use secret::Secrets;
 
 // What a `judge` line says of everything but the address and the body.
@@ -243,17 +244,15 @@ fn answer_written(line: &[u8], written: Written, buffer: &[u8]) -> bool {
     output::say_last(buffer)
 }
 
-// `fresh OUTPUT SECRET CLOCK ADDRESS CLIENT`
-pub fn fresh_line(line: &[u8], number: u64, bytes: &mut [u8], others: &mut [u8]) -> bool {
-    if text::fields(line) != 6 {
-        return output::bad_line(number);
-    }
-    let SecretField::Is(secret) = fields::secret(text::field(line, 2)) else {
-        return output::bad_line(number);
-    };
-    let ClockField::Is(clock) = fields::clock(text::field(line, 3)) else {
-        return output::bad_line(number);
-    };
+// Makes, once the secret and the clock are read.
+fn fresh(
+    line: &[u8],
+    number: u64,
+    secret: Secret,
+    clock: u32,
+    bytes: &mut [u8],
+    others: &mut [u8],
+) -> bool {
     let mut client = [0u8; 8];
     let client_read = hex::decode(text::field(line, 5), &mut client);
     if client_read.count != 8 {
@@ -271,6 +270,20 @@ pub fn fresh_line(line: &[u8], number: u64, bytes: &mut [u8], others: &mut [u8])
     let m = address.count;
     let written = cookie::write_fresh(&mut bytes[0..n], secret, clock, &others[0..m], &client);
     answer_written(line, written, &bytes[0..n])
+}
+
+// `fresh OUTPUT SECRET CLOCK ADDRESS CLIENT`
+pub fn fresh_line(line: &[u8], number: u64, bytes: &mut [u8], others: &mut [u8]) -> bool {
+    if text::fields(line) != 6 {
+        return output::bad_line(number);
+    }
+    let SecretField::Is(secret) = fields::secret(text::field(line, 2)) else {
+        return output::bad_line(number);
+    };
+    let ClockField::Is(clock) = fields::clock(text::field(line, 3)) else {
+        return output::bad_line(number);
+    };
+    fresh(line, number, secret, clock, bytes, others)
 }
 
 // `kept OUTPUT BODY`

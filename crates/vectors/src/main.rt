@@ -26,6 +26,17 @@ mod text;
 use fields::SecretField;
 use libc::STDIN_FILENO;
 
+// What a line asks for.
+enum Verb {
+    Comment,
+    Hash,
+    Judge,
+    Fresh,
+    Kept,
+    Body,
+    Unknown,
+}
+
 // What a turn of reading leaves: how many bytes of an unfinished line stand at the buffer's front, and that line's number.
 struct Turn {
     kept: usize,
@@ -60,31 +71,48 @@ fn hash_line(line: &[u8], number: u64, bytes: &mut [u8]) -> bool {
     output::say_last(&hash)
 }
 
-// Answers one line. False: nothing more can be written.
-fn run_line(line: &[u8], number: u64, bytes: &mut [u8], others: &mut [u8]) -> bool {
+fn verb_of(line: &[u8]) -> Verb {
     if text::is_comment(line) {
-        if !output::say(line) {
-            return false;
-        }
-        return output::say(b"\n");
+        return Verb::Comment;
     }
     let verb = text::field(line, 0);
     if octets::same(verb, b"siphash24") {
-        return hash_line(line, number, bytes);
+        return Verb::Hash;
     }
     if octets::same(verb, b"judge") {
-        return cookies::judge_line(line, number, bytes, others);
+        return Verb::Judge;
     }
     if octets::same(verb, b"fresh") {
-        return cookies::fresh_line(line, number, bytes, others);
+        return Verb::Fresh;
     }
     if octets::same(verb, b"kept") {
-        return cookies::kept_line(line, number, bytes, others);
+        return Verb::Kept;
     }
     if octets::same(verb, b"body") {
-        return cookies::body_line(line, number, bytes);
+        return Verb::Body;
     }
-    output::bad_line(number)
+    Verb::Unknown
+}
+
+// A comment or an empty line, as it is.
+fn comment_line(line: &[u8]) -> bool {
+    if !output::say(line) {
+        return false;
+    }
+    output::say(b"\n")
+}
+
+// Answers one line. False: nothing more can be written.
+fn run_line(line: &[u8], number: u64, bytes: &mut [u8], others: &mut [u8]) -> bool {
+    match verb_of(line) {
+        Verb::Comment => comment_line(line),
+        Verb::Hash => hash_line(line, number, bytes),
+        Verb::Judge => cookies::judge_line(line, number, bytes, others),
+        Verb::Fresh => cookies::fresh_line(line, number, bytes, others),
+        Verb::Kept => cookies::kept_line(line, number, bytes, others),
+        Verb::Body => cookies::body_line(line, number, bytes),
+        Verb::Unknown => output::bad_line(number),
+    }
 }
 
 // Answers each whole line of a text.
