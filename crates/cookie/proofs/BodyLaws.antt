@@ -1,17 +1,17 @@
 -- The verdict on a body by its bytes, over any method. Assumes nothing.
-use mathlib.Core.Path.{_≡_, refl, sym, ap, ap₂, _∙_}
-use mathlib.Core.Bool.{Bool, true, false, cond, _&&_}
-use mathlib.Core.List.{List, [], _∷_, _++_}
-use Prim.Native.Nat.{ℕ, _+_, _≤_, _<_}
+use mathlib.Core.Path.{_≡_, refl, sym, ap, _∙_}
+use mathlib.Core.Bool.{cond}
+use mathlib.Core.List.{List, _++_}
+use Prim.Native.Nat.{ℕ, _+_}
 use native.Mathlib.Omega.{arith}
 use borrow.Author.Tests.{eq-eqb, ne-eqb}
 use lib.Dec.{eqb}
 use lib.ListN.{length, take, drop, getD, length-drop}
 use lib.Seq.{getD-drop, drop-drop, take-add}
-use Rattle.octets.specs.Numbers.{beNumber, be32At}
+use Rattle.octets.specs.Numbers.{be32At}
 use Rattle.secret.specs.declared.Secrets.{Secrets}
 use Rattle.cookie.specs.Serial.{age}
-use Rattle.cookie.specs.ServerCookie.{CookieMethod, Finding, timestamp, hashed, hashField, clientCookie, serverCookie, isMethod, matching, byHash, judgeServer, judgeBody}
+use Rattle.cookie.specs.ServerCookie.{CookieMethod, timestamp, hashed, hashField, clientCookie, serverCookie, isMethod, matching, byHash, judgeServer, judgeBody}
 use Rattle.cookie.specs.ServerCookie.Finding.{clientOnly, bad}
 
 -- bytes of the server cookie by their places in the body

@@ -1,16 +1,15 @@
 -- The claims `WrittenWhole`, `SipHashEight` and `FreshIsGood` of specs/Claims.antt. Assumes nothing.
 use mathlib.Core.Path.{_≡_, refl, sym, ap, _∙_}
-use mathlib.Core.Bool.{Bool, true, false, not, cond, _&&_, true≢false, false≢true}
-use mathlib.Core.List.{List, [], _∷_, _++_, append-assoc}
-use mathlib.Core.Option.{Option, none, some}
-use Prim.Native.Nat.{ℕ, zero, suc, _+_, _-_, _%_, _^_, _≤_, _<_}
+use mathlib.Core.Bool.{Bool, true, false, true≢false}
+use mathlib.Core.List.{List, _++_, append-assoc}
+use Prim.Native.Nat.{ℕ, suc, _+_, _-_, _%_, _^_, _≤_, _<_}
 use native.Mathlib.Omega.{arith}
-use borrow.Author.Tests.{eqb-true, ltb-true, ltb-false, lt-ltb, le-ltb, le-leb}
-use lib.Dec.{eqb, ltb, leb, le→leb}
+use borrow.Author.Tests.{le-ltb, le-leb}
+use lib.Dec.{ltb, leb, le→leb}
 use lib.IntN.{ℤ, pos, negsuc, subℕ}
 use lib.ListN.{length, take, drop, getD, length-append, length-drop}
 use lib.Seq.{take-at, drop-at, take-append-le, drop-append-le, take-all, drop-drop, getD-drop}
-use lib.Signed.{leZ, _≤ℤ_}
+use lib.Signed.{_≤ℤ_}
 use Rattle.octets.specs.Numbers.{beNumber, beBytes, be32At}
 use Rattle.octets.proofs.NumberLaws.{length-leBytes, length-beBytes, be-back}
 use Rattle.octets.proofs.ReadLaws.{be32-at}
@@ -18,14 +17,14 @@ use Rattle.octets.proofs.RunLaws.{same-refl, same-true}
 use Rattle.octets.specs.Runs.{sameRun}
 use Rattle.secret.specs.declared.Secret.{Secret}
 use Rattle.secret.specs.declared.Secrets.{Secrets}
-use Rattle.secret.specs.Secrets.{generatingOf, otherOf}
+use Rattle.secret.specs.Secrets.{generatingOf}
 use Rattle.siphash.specs.SipHash.{sipHash24, sipHash24Bytes}
 use Rattle.cookie.proofs.Good.{good-exactly-when, address-true}
 use Rattle.cookie.proofs.SerialLaws.{age-of-times}
 use Rattle.cookie.specs.Claims.{HashedUnder, MatchedBy, EightBytes, AnAddress, SipHashEight, Holding, WrittenWhole, Holds, JudgedGood, FreshGood, FreshIsGood}
 use Rattle.cookie.specs.Claims.Holds.{makes-with, accepts}
 use Rattle.cookie.specs.CookieOption.{optionHead, freshFront, freshServer, freshOption, freshRefusal, keptOption, keptRefusal, outputAfter, writtenBody}
-use Rattle.cookie.specs.ServerCookie.{CookieMethod, sipHashMethod, isAddress}
+use Rattle.cookie.specs.ServerCookie.{CookieMethod}
 use Rattle.cookie.specs.Serial.{age}
 use Rattle.cookie.specs.declared.Mode.{Mode}
 use Rattle.cookie.specs.declared.Mode.the-variants.{Disabled}

@@ -3,10 +3,10 @@ use mathlib.Core.Path.{_≡_, refl, sym, ap, _∙_}
 use mathlib.Core.Bool.{Bool, true, false, not, cond, _&&_, _||_, true≢false, false≢true}
 use mathlib.Core.List.{List, _++_}
 use mathlib.Core.Option.{Option, none, some}
-use Prim.Native.Nat.{ℕ, zero, suc}
+use Prim.Native.Nat.{ℕ}
 use native.Mathlib.Decide.{ℕ-discrete}
 use native.Mathlib.Omega.{arith}
-use borrow.Author.Tests.{eqb-true, eq-eqb}
+use borrow.Author.Tests.{eqb-true}
 use lib.Dec.{T, eqb}
 use lib.IntN.{ℤ, pos, negsuc}
 use lib.ListN.{length, take, drop, getD}
@@ -22,7 +22,7 @@ use Rattle.cookie.proofs.MessageLaws.{is-4, is-16, is-between}
 use Rattle.cookie.specs.Claims.{HashedUnder, MatchedBy, AnAddress, IsGood, GoodExactlyWhen}
 use Rattle.cookie.specs.Claims.AnAddress.{four, sixteen}
 use Rattle.cookie.specs.Serial.{age}
-use Rattle.cookie.specs.ServerCookie.{CookieMethod, Finding, Answer, matches, matchingOther, matching, isTimely, byTime, byHash, judgeBody, verdict, isDisabled, isAddress, isBody, checkingRefusal, answer, judgement}
+use Rattle.cookie.specs.ServerCookie.{CookieMethod, Finding, Answer, matches, matchingOther, matching, isTimely, byTime, byHash, judgeBody, isAddress, isBody, checkingRefusal, answer, judgement}
 use Rattle.cookie.specs.ServerCookie.Answer.{refused, found}
 use Rattle.cookie.specs.ServerCookie.Finding.{ignored, absent, clientOnly, bad, good}
 use Rattle.cookie.specs.declared.Mode.{Mode}

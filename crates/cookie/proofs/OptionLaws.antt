@@ -1,12 +1,11 @@
 -- What the proofs of cookie_option cite, one law for each answer. Assumes nothing.
 use mathlib.Core.Path.{_≡_, refl, sym, ap, ap₂, _∙_}
-use mathlib.Core.Bool.{Bool, true, false, not, cond, _&&_}
+use mathlib.Core.Bool.{Bool, true, false, not}
 use mathlib.Core.List.{List, [], _∷_, _++_, append-assoc}
-use Prim.Native.Nat.{ℕ, zero, suc, _+_, _%_, _≤_, _<_}
+use Prim.Native.Nat.{ℕ, zero, suc, _+_, _≤_, _<_}
 use native.Mathlib.Nat.{zero-add}
 use native.Mathlib.Omega.{arith}
 use borrow.Author.Tests.{eq-eqb, ne-eqb, lt-ltb, le-ltb, le-leb, lt-leb}
-use lib.Dec.{eqb, ltb, leb}
 use lib.ListN.{length, take, drop, getD, length-append}
 use lib.Seq.{drop-drop, take-add, take-all}
 use Rattle.octets.specs.Numbers.{leNumber, leBytes, beBytes}
@@ -17,7 +16,7 @@ use Rattle.secret.specs.declared.Secret.{Secret}
 use Rattle.siphash.specs.SipHash.{sipHash24, sipHash24Bytes}
 use Rattle.cookie.proofs.ServerLaws.{not-true, not-false}
 use Rattle.cookie.specs.CookieOption.{optionHead, freshFront, freshServer, freshOption, freshRefusal, keptOption, keptRefusal, outputAfter, writtenBody}
-use Rattle.cookie.specs.ServerCookie.{CookieMethod, sipHashMethod, isAddress}
+use Rattle.cookie.specs.ServerCookie.{sipHashMethod, isAddress}
 
 -- ---- an output that is refused stays
 

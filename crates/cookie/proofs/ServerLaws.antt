@@ -1,39 +1,33 @@
 -- What the proofs of server_cookie cite, one law for each answer. Assumes nothing.
 use mathlib.Core.Path.{_≡_, refl, sym, ap, ap₂, _∙_}
-use mathlib.Core.Bool.{Bool, true, false}
-use mathlib.Core.List.{List, [], _∷_, _++_}
-use Prim.Native.Nat.{ℕ, _+_, _-_, _≤_, _<_}
-use native.Mathlib.Nat.{zero-add}
+use mathlib.Core.Bool.{Bool, true, false, not, true≢false, false≢true}
+use mathlib.Core.List.{List, _++_}
+use Prim.Native.Nat.{ℕ, _+_, _<_}
 use native.Mathlib.Omega.{arith}
-use borrow.Author.Tests.{eq-eqb, ne-eqb, le-leb, lt-leb}
-use lib.Dec.{eqb, leb}
-use lib.ListN.{length, length-append}
+use borrow.Author.Tests.{eq-eqb, le-leb, lt-leb, eqb-true, lt-ltb, le-ltb}
+use lib.Dec.{eqb, leb, ltb}
+use lib.ListN.{length, take, drop, getD}
 use native.Mathlib.Decide.{decLt}
-use borrow.Author.Tests.{eqb-true, lt-ltb, le-ltb}
-use mathlib.Core.Bool.{not, cond, _&&_, _||_, true≢false, false≢true}
-use mathlib.Core.Option.{Option, none, some}
-use lib.Dec.{ltb}
+use mathlib.Core.Option.{none, some}
 use lib.IntN.{ℤ, pos, negsuc}
-use lib.ListN.{take, drop, getD}
 use lib.Seq.{take-add}
 use lib.Signed.{leZ, ltZ, mag}
-use mir.Syntax.{w8, w32, w64}
+use mir.Syntax.{w32, w64}
 use mir.Val.{toZ, ofZ, Fits, SFits}
 use mir.ValLaws.{toZ-ofZ}
 use Rattle.octets.specs.Numbers.{leNumber, leBytes, be32At}
-use Rattle.octets.specs.Runs.{sameRun, written}
+use Rattle.octets.specs.Runs.{sameRun}
 use Rattle.octets.proofs.NumberLaws.{le-back}
-use Rattle.octets.proofs.ReadLaws.{part-from, part-again}
-use Rattle.octets.proofs.RunLaws.{same-refl, same-true, length-written, written-front, written-next}
+use Rattle.octets.proofs.RunLaws.{same-refl, same-true}
 use Rattle.secret.specs.declared.Secret.{Secret}
 use Rattle.secret.specs.declared.Secrets.{Secrets}
 use Rattle.secret.specs.declared.Secrets.the-variants.{One, Two}
-use Rattle.secret.specs.Secrets.{generatingOf, otherOf}
+use Rattle.secret.specs.Secrets.{generatingOf}
 use Rattle.siphash.specs.SipHash.{sipHash24, sipHash24Bytes}
 use Rattle.cookie.proofs.BodyLaws.{judge-matching}
 use Rattle.cookie.specs.Match.{matchOf}
 use Rattle.cookie.specs.Serial.{age}
-use Rattle.cookie.specs.ServerCookie.{CookieMethod, Finding, sipHashMethod, matches, matching, isTimely, byTime, byHash, judgeBody, verdict, answer, judgement, checkingRefusal, finding, isDisabled, isAddress, isBody}
+use Rattle.cookie.specs.ServerCookie.{CookieMethod, sipHashMethod, matches, matching, isTimely, byTime, byHash, judgeBody, verdict, judgement, checkingRefusal, finding, isDisabled, isAddress, isBody}
 use Rattle.cookie.specs.ServerCookie.Answer.{refused, found}
 use Rattle.cookie.specs.ServerCookie.Finding.{ignored, good, bad}
 use Rattle.cookie.specs.declared.server_cookie.Match.{Match}

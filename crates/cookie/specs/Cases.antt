@@ -4,7 +4,7 @@ use Prim.Native.Nat.{ℕ, zero, suc, _+_, _^_}
 use mathlib.Core.Path.{_≡_}
 use mathlib.Core.List.{List, [], _∷_, _++_, map}
 use lib.IntN.{ℤ, pos, negsuc}
-use lib.ListN.{take, drop, replicate}
+use lib.ListN.{take, replicate}
 use Rattle.octets.specs.Numbers.{printed}
 use Rattle.secret.specs.declared.Secret.{Secret}
 use Rattle.secret.specs.declared.Secrets.{Secrets}
@@ -12,7 +12,7 @@ use Rattle.secret.specs.declared.Secrets.the-variants.{One, Two}
 use Rattle.secret.specs.Secret.{secretOf}
 use Rattle.cookie.specs.CookieOption.{freshOption, freshRefusal, keptOption, keptRefusal, outputAfter, writtenBody, writtenNumber}
 use Rattle.cookie.specs.PCases.{s1}
-use Rattle.cookie.specs.ReplyTable.{Owed, _carrying_, replyOwed, owedOf, carriedOption}
+use Rattle.cookie.specs.ReplyTable.{_carrying_, replyOwed, owedOf, carriedOption}
 use Rattle.cookie.specs.ReplyTable.Sent.{serve, truncate, error}
 use Rattle.cookie.specs.Serial.{age}
 use Rattle.cookie.specs.ServerCookie.{Answer, Finding, CookieMethod, sipHashMethod, judgement, checkingRefusal, finding, answerOf}

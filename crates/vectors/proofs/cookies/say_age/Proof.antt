@@ -1,5 +1,5 @@
 -- `vectors::cookies::say_age` is safe: -1 less a number fits wherever the number does. Assumes nothing.
-use Prim.Native.Nat.{ℕ, zero, suc, _<_, _-_, _^_}
+use Prim.Native.Nat.{zero, suc, _<_, _-_, _^_}
 use mathlib.Core.Path.{sym, subst}
 use mathlib.Core.Bool.{Bool, true, false, cond}
 use native.Mathlib.Omega.{arith}
