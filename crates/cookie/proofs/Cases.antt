@@ -1,18 +1,15 @@
 -- The claims of specs/Cases.antt, by computing the definitions. Assumes nothing.
 use mathlib.Core.Path.{refl}
-use Prim.Native.Nat.{suc}
-use native.Mathlib.Omega.{arith}
-use borrow.Author.Tests.{ne-eqb}
 use Rattle.octets.specs.Numbers.{leNumber, leBytes, beNumber, beBytes, printed}
 use Rattle.octets.specs.Runs.{sameRun}
 use Rattle.secret.specs.Secret.{secretOf}
 use Rattle.siphash.specs.SipHash.{sipHash24Bytes, sipHash24, finalized, absorbed, compressed, initialized, lastWord, wordAt, rounds, sipRound, rotl64}
-use Rattle.cookie.specs.Cases.{ReasonsHold, SecretsHold, RefusalsHold, AgesHold, RepliesHold, OptionsHold, NamesHold, LengthsHold}
+use Rattle.verdict.specs.Findings.{isTimely, byTime}
+use Rattle.verdict.specs.Serial.{age}
+use Rattle.cookie.specs.Cases.{ReasonsHold, SecretsHold, RefusalsHold, OptionsHold, NamesHold, LengthsHold}
 use Rattle.cookie.specs.CookieOption.{freshFront, freshServer, freshOption, keptOption, freshRefusal, keptRefusal, writtenBody}
 use Rattle.cookie.specs.PCases.{s1}
-use Rattle.cookie.specs.ReplyTable.{reservedZero, isYoung}
-use Rattle.cookie.specs.Serial.{age}
-use Rattle.cookie.specs.ServerCookie.{isMethod, matches, matching, isTimely, byTime, judgeServer, judgeBody, isAddress, isBody, checkingRefusal, judgement}
+use Rattle.cookie.specs.ServerCookie.{isMethod, matches, matching, judgeServer, judgeBody, isAddress, isBody, checkingRefusal, judgement}
 
 pub reasons-hold : ReasonsHold
 unfolding judgement checkingRefusal isAddress isBody judgeBody judgeServer isMethod matching matches byTime isTimely age s1 sameRun secretOf sipHash24Bytes sipHash24 finalized absorbed compressed initialized lastWord wordAt rounds sipRound rotl64 leNumber leBytes beNumber beBytes printed
@@ -88,46 +85,6 @@ refusals-hold =
       disabled-six = refl;
     }
 
-pub ages-hold : AgesHold
-unfolding age
-ages-hold =
-    record {
-      same = refl;
-      later = refl;
-      sooner = refl;
-      furthest-old = refl;
-      furthest-new = refl;
-      round-old = refl;
-      round-new = refl;
-      p3 = refl;
-    }
-
-pub replies-hold : RepliesHold
-unfolding reservedZero isYoung sameRun printed beBytes
-replies-hold =
-    record {
-      disabled = λ q v b. refl;
-      enabled-ignored = λ q b. refl;
-      enabled-absent = λ q b. refl;
-      enabled-client = λ q b. refl;
-      enabled-bad = λ q n b. refl;
-      enforced-ignored = λ q b. refl;
-      enforced-absent = λ q b. refl;
-      enforced-client = λ q b. rw (ne-eqb (suc q) 0 (λ e. omega (arith, e)));
-      enforced-client-0 = λ b. refl;
-      enforced-bad = λ q n b. refl;
-      good-alike = λ q r a w b. refl;
-      good-other = λ q a b. refl;
-      kept-first = refl;
-      kept-last = refl;
-      too-old = refl;
-      ahead = refl;
-      reserved-one = refl;
-      reserved-two = refl;
-      reserved-three = refl;
-      no-reserved = refl;
-    }
-
 pub options-hold : OptionsHold
 unfolding freshRefusal keptRefusal freshOption freshServer freshFront keptOption writtenBody isAddress s1 sameRun secretOf sipHash24Bytes sipHash24 finalized absorbed compressed initialized lastWord wordAt rounds sipRound rotl64 leNumber leBytes beBytes printed
 options-hold =
@@ -158,14 +115,6 @@ options-hold =
 pub names-hold : NamesHold
 names-hold =
     record {
-      method = refl;
-      hash = refl;
-      time = refl;
-      of-ignored = refl;
-      of-absent = refl;
-      client-only = refl;
-      by-generating = refl;
-      by-other = refl;
       output = refl;
       no-address = refl;
       no-body = refl;
@@ -174,9 +123,6 @@ names-hold =
       judged-address = refl;
       judged-body = refl;
       judged = refl;
-      served = refl;
-      bad-cookie = refl;
-      truncated = refl;
     }
 
 pub lengths-hold : LengthsHold

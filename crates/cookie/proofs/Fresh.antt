@@ -20,16 +20,16 @@ use Rattle.secret.specs.declared.Secrets.{Secrets}
 use Rattle.secret.specs.Secrets.{generatingOf}
 use Rattle.siphash.specs.SipHash.{sipHash24, sipHash24Bytes}
 use Rattle.cookie.proofs.Good.{good-exactly-when, address-true}
-use Rattle.cookie.proofs.SerialLaws.{age-of-times}
+use Rattle.verdict.proofs.SerialLaws.{age-of-times}
 use Rattle.cookie.specs.Claims.{HashedUnder, MatchedBy, EightBytes, AnAddress, SipHashEight, Holding, WrittenWhole, Holds, JudgedGood, FreshGood, FreshIsGood}
 use Rattle.cookie.specs.Claims.Holds.{makes-with, accepts}
 use Rattle.cookie.specs.CookieOption.{optionHead, freshFront, freshServer, freshOption, freshRefusal, keptOption, keptRefusal, outputAfter, writtenBody}
 use Rattle.cookie.specs.ServerCookie.{CookieMethod}
-use Rattle.cookie.specs.Serial.{age}
-use Rattle.cookie.specs.declared.Mode.{Mode}
-use Rattle.cookie.specs.declared.Mode.the-variants.{Disabled}
-use Rattle.cookie.specs.declared.Which.{Which}
-use Rattle.cookie.specs.declared.Which.the-variants.{Generating, Other}
+use Rattle.verdict.specs.Serial.{age}
+use Rattle.verdict.specs.declared.Mode.{Mode}
+use Rattle.verdict.specs.declared.Mode.the-variants.{Disabled}
+use Rattle.verdict.specs.declared.Which.{Which}
+use Rattle.verdict.specs.declared.Which.the-variants.{Generating, Other}
 
 -- ---- read back
 

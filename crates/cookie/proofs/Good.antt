@@ -21,14 +21,15 @@ use Rattle.cookie.proofs.BodyLaws.{judge-8, judge-other, judge-24, judg
 use Rattle.cookie.proofs.MessageLaws.{is-4, is-16, is-between}
 use Rattle.cookie.specs.Claims.{HashedUnder, MatchedBy, AnAddress, IsGood, GoodExactlyWhen}
 use Rattle.cookie.specs.Claims.AnAddress.{four, sixteen}
-use Rattle.cookie.specs.Serial.{age}
-use Rattle.cookie.specs.ServerCookie.{CookieMethod, Finding, Answer, matches, matchingOther, matching, isTimely, byTime, byHash, judgeBody, isAddress, isBody, checkingRefusal, answer, judgement}
+use Rattle.verdict.specs.Serial.{age}
+use Rattle.verdict.specs.Findings.{Finding, isTimely, byTime}
+use Rattle.cookie.specs.ServerCookie.{CookieMethod, Answer, matches, matchingOther, matching, byHash, judgeBody, isAddress, isBody, checkingRefusal, answer, judgement}
 use Rattle.cookie.specs.ServerCookie.Answer.{refused, found}
-use Rattle.cookie.specs.ServerCookie.Finding.{ignored, absent, clientOnly, bad, good}
-use Rattle.cookie.specs.declared.Mode.{Mode}
-use Rattle.cookie.specs.declared.Mode.the-variants.{Disabled, Enabled, Enforced}
-use Rattle.cookie.specs.declared.Which.{Which}
-use Rattle.cookie.specs.declared.Which.the-variants.{Generating, Other}
+use Rattle.verdict.specs.Findings.Finding.{ignored, absent, clientOnly, bad, good}
+use Rattle.verdict.specs.declared.Mode.{Mode}
+use Rattle.verdict.specs.declared.Mode.the-variants.{Disabled, Enabled, Enforced}
+use Rattle.verdict.specs.declared.Which.{Which}
+use Rattle.verdict.specs.declared.Which.the-variants.{Generating, Other}
 
 -- ---- answers and findings are told apart
 

@@ -5,6 +5,4 @@ pub mod Good
 pub mod MessageLaws
 pub mod OptionLaws
 pub mod PCases
-pub mod ReplyLaws
-pub mod SerialLaws
 pub mod ServerLaws

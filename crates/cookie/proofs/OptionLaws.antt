@@ -14,7 +14,7 @@ use Rattle.octets.proofs.NumberLaws.{length-leBytes, le-again}
 use Rattle.octets.proofs.RunLaws.{written-next}
 use Rattle.secret.specs.declared.Secret.{Secret}
 use Rattle.siphash.specs.SipHash.{sipHash24, sipHash24Bytes}
-use Rattle.cookie.proofs.ServerLaws.{not-true, not-false}
+use Rattle.verdict.proofs.TimeLaws.{not-true, not-false}
 use Rattle.cookie.specs.CookieOption.{optionHead, freshFront, freshServer, freshOption, freshRefusal, keptOption, keptRefusal, outputAfter, writtenBody}
 use Rattle.cookie.specs.ServerCookie.{sipHashMethod, isAddress}
 

@@ -3,17 +3,15 @@ use mathlib.Core.Path.{_≡_, refl, sym, ap, ap₂, _∙_}
 use mathlib.Core.Bool.{Bool, true, false, not, true≢false, false≢true}
 use mathlib.Core.List.{List, _++_}
 use Prim.Native.Nat.{ℕ, _+_, _<_}
-use native.Mathlib.Omega.{arith}
-use borrow.Author.Tests.{eq-eqb, le-leb, lt-leb, eqb-true, lt-ltb, le-ltb}
-use lib.Dec.{eqb, leb, ltb}
+use borrow.Author.Tests.{eq-eqb, eqb-true}
+use lib.Dec.{eqb}
 use lib.ListN.{length, take, drop, getD}
-use native.Mathlib.Decide.{decLt}
 use mathlib.Core.Option.{none, some}
-use lib.IntN.{ℤ, pos, negsuc}
+use lib.IntN.{ℤ}
 use lib.Seq.{take-add}
-use lib.Signed.{leZ, ltZ, mag}
+use lib.Signed.{mag}
 use mir.Syntax.{w32, w64}
-use mir.Val.{toZ, ofZ, Fits, SFits}
+use mir.Val.{toZ, ofZ, Fits}
 use mir.ValLaws.{toZ-ofZ}
 use Rattle.octets.specs.Numbers.{leNumber, leBytes, be32At}
 use Rattle.octets.specs.Runs.{sameRun}
@@ -26,58 +24,19 @@ use Rattle.secret.specs.Secrets.{generatingOf}
 use Rattle.siphash.specs.SipHash.{sipHash24, sipHash24Bytes}
 use Rattle.cookie.proofs.BodyLaws.{judge-matching}
 use Rattle.cookie.specs.Match.{matchOf}
-use Rattle.cookie.specs.Serial.{age}
-use Rattle.cookie.specs.ServerCookie.{CookieMethod, sipHashMethod, matches, matching, isTimely, byTime, byHash, judgeBody, verdict, judgement, checkingRefusal, finding, isDisabled, isAddress, isBody}
+use Rattle.verdict.proofs.TimeLaws.{not-true, not-false}
+use Rattle.verdict.specs.Findings.{finding, byTime}
+use Rattle.verdict.specs.Serial.{age}
+use Rattle.cookie.specs.ServerCookie.{CookieMethod, sipHashMethod, matches, matching, byHash, judgeBody, verdict, judgement, checkingRefusal, isDisabled, isAddress, isBody}
 use Rattle.cookie.specs.ServerCookie.Answer.{refused, found}
-use Rattle.cookie.specs.ServerCookie.Finding.{ignored, good, bad}
+use Rattle.verdict.specs.Findings.Finding.{ignored, bad}
 use Rattle.cookie.specs.declared.server_cookie.Match.{Match}
 use Rattle.cookie.specs.declared.server_cookie.Match.the-variants.{By, Nothing}
-use Rattle.cookie.specs.declared.Mode.{Mode}
-use Rattle.cookie.specs.declared.Mode.the-variants.{Disabled, Enabled, Enforced}
-use Rattle.cookie.specs.declared.Verdict.{Verdict}
-use Rattle.cookie.specs.declared.Which.{Which}
-use Rattle.cookie.specs.declared.Which.the-variants.{Generating, Other}
-
--- ---- step 3
-
-leb-not : (m n : ℕ) → leb m n ≡ not (ltb n m)
-leb-not m n =
-    elim (decLt n m) [ yes h ↦ rw (lt-leb m n h, lt-ltb n m h) | no h ↦ rw (le-leb m n (omega arith), le-ltb n m (omega arith)) ]
-
--- what is not below is at least
-pub le-not : (a b : ℤ) → leZ a b ≡ not (ltZ b a)
-le-not (pos m) (pos n) = leb-not m n
-le-not (pos m) (negsuc n) = refl
-le-not (negsuc m) (pos n) = refl
-le-not (negsuc m) (negsuc n) = leb-not n m
-
-module _ (a : ℤ) (w : Which) where
-  new : ltZ a (negsuc 299) ≡ true → bad 3 ≡ byTime a w
-  unfolding byTime isTimely
-  new below = rw (le-not (negsuc 299) a, below)
-
-  old : ltZ a (negsuc 299) ≡ false → ltZ (pos 3600) a ≡ true → bad 3 ≡ byTime a w
-  unfolding byTime isTimely
-  old not-below above = rw (le-not (negsuc 299) a, le-not a (pos 3600), not-below, above)
-
-  timely : ltZ a (negsuc 299) ≡ false → ltZ (pos 3600) a ≡ false → good a w ≡ byTime a w
-  unfolding byTime isTimely
-  timely not-below not-above = rw (le-not (negsuc 299) a, le-not a (pos 3600), not-below, not-above)
-
--- the same, where the age is read from a local's bits
-module _ (a : ℤ) (w : Which) (ok : SFits w32 a) where
-  read : toZ w32 (ofZ w32 a) ≡ a
-  read = toZ-ofZ w32 a ok
-
-  pub too-new : ltZ (toZ w32 (ofZ w32 a)) (negsuc 299) ≡ true → bad 3 ≡ byTime a w
-  too-new below = new a w (rw read at below)
-
-  pub too-old : ltZ (toZ w32 (ofZ w32 a)) (negsuc 299) ≡ false → ltZ (pos 3600) (toZ w32 (ofZ w32 a)) ≡ true → bad 3 ≡ byTime a w
-  too-old not-below above = old a w (rw read at not-below) (rw read at above)
-
-  pub in-time : ltZ (toZ w32 (ofZ w32 a)) (negsuc 299) ≡ false → ltZ (pos 3600) (toZ w32 (ofZ w32 a)) ≡ false
-      → good (toZ w32 (ofZ w32 a)) w ≡ byTime a w
-  in-time not-below not-above = ap (λ (z : ℤ). good z w) read ∙ timely a w (rw read at not-below) (rw read at not-above)
+use Rattle.verdict.specs.declared.Mode.{Mode}
+use Rattle.verdict.specs.declared.Mode.the-variants.{Disabled, Enabled, Enforced}
+use Rattle.verdict.specs.declared.Verdict.{Verdict}
+use Rattle.verdict.specs.declared.Which.{Which}
+use Rattle.verdict.specs.declared.Which.the-variants.{Generating, Other}
 
 -- ---- step 2
 
@@ -140,14 +99,6 @@ module _ (secrets : Secrets) (clock : ℕ) (address body : List ℕ) (long : len
       told′ ∙ ap (λ (x : ℤ). byTime x w) (toZ-ofZ w32 a (record { sfits = ok }) ∙ aged ∙ ap (age clock) stamped) ∙ ap (λ (x : Match). byHash (age clock (be32At body 12)) (matchOf x)) (sym by) ∙ by-match
 
 -- ---- the refusals. A test that was turned round tells of `not`
-
-pub not-true : (a : Bool) → not a ≡ true → a ≡ false
-not-true true e = absurd (false≢true e)
-not-true false e = refl
-
-pub not-false : (a : Bool) → not a ≡ false → a ≡ true
-not-false true e = refl
-not-false false e = absurd (true≢false e)
 
 module _ (mode : Mode) (secrets : Secrets) (clock : ℕ) (address body : List ℕ) (a : Bool) (is-a : a ≡ isAddress address) where
   pub refuse-address : not a ≡ true → refused 2 ≡ judgement sipHashMethod mode secrets clock address body

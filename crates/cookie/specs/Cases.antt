@@ -1,34 +1,27 @@
--- Cases that pin the definitions beside the P cases: each reason, each refusal, how many secrets are held, ages, each cell of the reply table, and what is
--- written and read back. The secret, the address and the cookie are those of P1; other hashes are what OpenSSL's SIPHASH gives. Assumes nothing.
-use Prim.Native.Nat.{ℕ, zero, suc, _+_, _^_}
+-- Cases that pin the definitions beside the P cases: each reason, each refusal, how many secrets are held, and what is written and read back. The secret, the address and the cookie are those of P1; other hashes are what OpenSSL's SIPHASH gives. Assumes nothing.
+use Prim.Native.Nat.{ℕ, zero, suc, _+_}
 use mathlib.Core.Path.{_≡_}
 use mathlib.Core.List.{List, [], _∷_, _++_, map}
-use lib.IntN.{ℤ, pos, negsuc}
+use lib.IntN.{pos}
 use lib.ListN.{take, replicate}
 use Rattle.octets.specs.Numbers.{printed}
 use Rattle.secret.specs.declared.Secret.{Secret}
 use Rattle.secret.specs.declared.Secrets.{Secrets}
 use Rattle.secret.specs.declared.Secrets.the-variants.{One, Two}
 use Rattle.secret.specs.Secret.{secretOf}
-use Rattle.cookie.specs.CookieOption.{freshOption, freshRefusal, keptOption, keptRefusal, outputAfter, writtenBody, writtenNumber}
+use Rattle.cookie.specs.CookieOption.{carriedOption, freshOption, freshRefusal, keptOption, keptRefusal, outputAfter, writtenBody, writtenNumber}
 use Rattle.cookie.specs.PCases.{s1}
-use Rattle.cookie.specs.ReplyTable.{_carrying_, replyOwed, owedOf, carriedOption}
-use Rattle.cookie.specs.ReplyTable.Sent.{serve, truncate, error}
-use Rattle.cookie.specs.Serial.{age}
-use Rattle.cookie.specs.ServerCookie.{Answer, Finding, CookieMethod, sipHashMethod, judgement, checkingRefusal, finding, answerOf}
+use Rattle.cookie.specs.ServerCookie.{Answer, CookieMethod, sipHashMethod, judgement, checkingRefusal, answerOf}
 use Rattle.cookie.specs.ServerCookie.Answer.{refused, found}
-use Rattle.cookie.specs.ServerCookie.Finding.{ignored, absent, clientOnly, bad, good}
-use Rattle.cookie.specs.declared.Carried.the-variants.{Nothing, Fresh, Kept}
-use Rattle.cookie.specs.declared.Mode.{Mode}
-use Rattle.cookie.specs.declared.Mode.the-variants.{Disabled, Enabled, Enforced}
+use Rattle.verdict.specs.Findings.Finding.{ignored, clientOnly, bad, good}
+use Rattle.verdict.specs.declared.Carried.the-variants.{Nothing}
+use Rattle.verdict.specs.declared.Mode.{Mode}
+use Rattle.verdict.specs.declared.Mode.the-variants.{Disabled, Enabled, Enforced}
 use Rattle.cookie.specs.declared.Judged.the-variants as judged-as
 use Rattle.cookie.specs.declared.Written.the-variants as written-as
-use Rattle.cookie.specs.declared.Reason.the-variants.{Method, Hash, Time}
 use Rattle.cookie.specs.declared.Refusal.the-variants.{Output, Address, Body, NotKept}
-use Rattle.cookie.specs.declared.Verdict.the-variants.{Ignored, Absent, ClientOnly, Bad, Good}
-use Rattle.cookie.specs.declared.Action.the-variants.{Serve, BadCookie, Truncate}
-use Rattle.cookie.specs.declared.Which.{Which}
-use Rattle.cookie.specs.declared.Which.the-variants.{Generating, Other}
+use Rattle.verdict.specs.declared.Verdict.the-variants.{ClientOnly}
+use Rattle.verdict.specs.declared.Which.the-variants.{Generating, Other}
 
 -- P1's address, cookie and second; another secret; sixteen zero bytes
 abbrev pub address : List ℕ
@@ -145,42 +138,6 @@ pub record RefusalsHold : Type 0 where
   pub disabled-body : from Disabled address (take 7 cookie) ≡ found ignored
   pub disabled-six : from Disabled (sevens 16) [] ≡ found ignored
 
--- ages
-pub record AgesHold : Type 0 where
-  -- either side of half the circle, and round its end
-  pub same : age 5 5 ≡ pos 0
-  pub later : age 6 5 ≡ pos 1
-  pub sooner : age 5 6 ≡ negsuc 0
-  pub furthest-old : age (2 ^ 31 + 4) 5 ≡ pos 2147483647
-  pub furthest-new : age (2 ^ 31 + 5) 5 ≡ negsuc 2147483647
-  pub round-old : age 0 0xffffffff ≡ pos 1
-  pub round-new : age 0xffffffff 0 ≡ negsuc 0
-  pub p3 : age 0x5cf7a9ac 0x5cf78f71 ≡ pos 6715
-
--- each cell of the reply table, for every QDCOUNT, reason, age and body
-pub record RepliesHold : Type 0 where
-  pub disabled : (q : ℕ) (v : Finding) (b : List ℕ) → replyOwed Disabled q v b ≡ serve carrying Nothing
-  pub enabled-ignored : (q : ℕ) (b : List ℕ) → replyOwed Enabled q ignored b ≡ serve carrying Nothing
-  pub enabled-absent : (q : ℕ) (b : List ℕ) → replyOwed Enabled q absent b ≡ serve carrying Nothing
-  pub enabled-client : (q : ℕ) (b : List ℕ) → replyOwed Enabled q clientOnly b ≡ serve carrying Fresh
-  pub enabled-bad : (q n : ℕ) (b : List ℕ) → replyOwed Enabled q (bad n) b ≡ error 23 carrying Fresh
-  pub enforced-ignored : (q : ℕ) (b : List ℕ) → replyOwed Enforced q ignored b ≡ serve carrying Nothing
-  pub enforced-absent : (q : ℕ) (b : List ℕ) → replyOwed Enforced q absent b ≡ truncate carrying Nothing
-  pub enforced-client : (q : ℕ) (b : List ℕ) → replyOwed Enforced (suc q) clientOnly b ≡ error 23 carrying Fresh
-  pub enforced-client-0 : (b : List ℕ) → replyOwed Enforced 0 clientOnly b ≡ serve carrying Fresh
-  pub enforced-bad : (q n : ℕ) (b : List ℕ) → replyOwed Enforced q (bad n) b ≡ error 23 carrying Fresh
-  pub good-alike : (q r : ℕ) (a : ℤ) (w : Which) (b : List ℕ) → replyOwed Enforced q (good a w) b ≡ replyOwed Enabled r (good a w) b
-  -- kept or fresh
-  pub good-other : (q : ℕ) (a : ℤ) (b : List ℕ) → replyOwed Enabled q (good a Other) b ≡ serve carrying Fresh
-  pub kept-first : replyOwed Enabled 1 (good (pos 0) Generating) cookie ≡ serve carrying Kept
-  pub kept-last : replyOwed Enabled 1 (good (pos 1800) Generating) cookie ≡ serve carrying Kept
-  pub too-old : replyOwed Enabled 1 (good (pos 1801) Generating) cookie ≡ serve carrying Fresh
-  pub ahead : replyOwed Enabled 1 (good (negsuc 0) Generating) cookie ≡ serve carrying Fresh
-  pub reserved-one : replyOwed Enabled 1 (good (pos 0) Generating) (printed 24 0x2464c4abcf10c957010100005cf79f116d707c989046e3c9) ≡ serve carrying Fresh
-  pub reserved-two : replyOwed Enabled 1 (good (pos 0) Generating) (printed 24 0x2464c4abcf10c957010001005cf79f114f8c59f70d755fd1) ≡ serve carrying Fresh
-  pub reserved-three : replyOwed Enabled 1 (good (pos 0) Generating) (printed 24 0x2464c4abcf10c957010000015cf79f11737c77e34ce6b548) ≡ serve carrying Fresh
-  pub no-reserved : replyOwed Enabled 1 (good (pos 0) Generating) (take 11 cookie) ≡ serve carrying Fresh
-
 -- options written and read back
 pub record OptionsHold : Type 0 where
   -- 1 before the others
@@ -209,16 +166,8 @@ pub record OptionsHold : Type 0 where
   pub back-head-4 : writtenBody (printed 28 0x000a00172464c4abcf10c957010000005cf79f111f8130c3eee29480) ≡ []
   pub back-empty : writtenBody [] ≡ []
 
--- what the code's enums say, each of their cases
+-- what the code's enums say, each of their cases; those of a verdict are in crate verdict
 pub record NamesHold : Type 0 where
-  pub method : finding (Bad Method) ≡ bad 1
-  pub hash : finding (Bad Hash) ≡ bad 2
-  pub time : finding (Bad Time) ≡ bad 3
-  pub of-ignored : finding Ignored ≡ ignored
-  pub of-absent : finding Absent ≡ absent
-  pub client-only : finding ClientOnly ≡ clientOnly
-  pub by-generating : finding (Good (pos 5) Generating) ≡ good (pos 5) Generating
-  pub by-other : finding (Good (negsuc 4) Other) ≡ good (negsuc 4) Other
   pub output : writtenNumber (written-as.Refused Output) ≡ 1
   pub no-address : writtenNumber (written-as.Refused Address) ≡ 2
   pub no-body : writtenNumber (written-as.Refused Body) ≡ 10
@@ -227,9 +176,6 @@ pub record NamesHold : Type 0 where
   pub judged-address : answerOf (judged-as.Refused Address) ≡ refused 2
   pub judged-body : answerOf (judged-as.Refused Body) ≡ refused 10
   pub judged : answerOf (judged-as.Found ClientOnly) ≡ found clientOnly
-  pub served : owedOf (record { action = Serve; option = Fresh }) ≡ serve carrying Fresh
-  pub bad-cookie : owedOf (record { action = BadCookie; option = Kept }) ≡ error 23 carrying Kept
-  pub truncated : owedOf (record { action = Truncate; option = Nothing }) ≡ truncate carrying Nothing
 
 -- lengths, all of them to 48: address and body of a checking, address and output of a making, output of a kept option
 abbrev pub times : ℕ → ℕ → List ℕ

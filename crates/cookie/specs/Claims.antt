@@ -1,6 +1,6 @@
--- Claims about server cookies, each over any method: when a cookie is good (demand 2), what its age is, how long a fresh one is good, and what is written
+-- Claims about server cookies, each over any method: when a cookie is good (demand 2), how long a fresh one is good, and what is written
 -- and read back. Assumes nothing.
-use Prim.Native.Nat.{ℕ, suc, _+_, _%_, _^_, _≤_, _<_}
+use Prim.Native.Nat.{ℕ, _+_, _%_, _^_, _≤_}
 use mathlib.Core.Path.{_≡_}
 use mathlib.Core.List.{List, [], _∷_, _++_}
 use mathlib.Core.Option.{some}
@@ -12,14 +12,14 @@ use Rattle.secret.specs.declared.Secret.{Secret}
 use Rattle.secret.specs.declared.Secrets.{Secrets}
 use Rattle.secret.specs.Secrets.{generatingOf, otherOf}
 use Rattle.cookie.specs.CookieOption.{freshOption, freshServer, freshRefusal, keptOption, keptRefusal, outputAfter, writtenBody}
-use Rattle.cookie.specs.Serial.{age}
+use Rattle.verdict.specs.Serial.{age}
 use Rattle.cookie.specs.ServerCookie.{CookieMethod, sipHashMethod, judgement}
 use Rattle.cookie.specs.ServerCookie.Answer.{found}
-use Rattle.cookie.specs.ServerCookie.Finding.{good}
-use Rattle.cookie.specs.declared.Mode.{Mode}
-use Rattle.cookie.specs.declared.Mode.the-variants.{Disabled}
-use Rattle.cookie.specs.declared.Which.{Which}
-use Rattle.cookie.specs.declared.Which.the-variants.{Generating, Other}
+use Rattle.verdict.specs.Findings.Finding.{good}
+use Rattle.verdict.specs.declared.Mode.{Mode}
+use Rattle.verdict.specs.declared.Mode.the-variants.{Disabled}
+use Rattle.verdict.specs.declared.Which.{Which}
+use Rattle.verdict.specs.declared.Which.the-variants.{Generating, Other}
 
 -- ---- demand 2: good exactly when
 
@@ -55,18 +55,6 @@ GoodExactlyWhen =
     (m : CookieMethod) (mode : Mode) → (mode ≡ Disabled → ⊥) → (secrets : Secrets) (clock : ℕ) (address body : List ℕ) (a : ℤ) (which : Which)
     → (judgement m mode secrets clock address body ≡ found (good a which) → IsGood m secrets clock address body a which)
     × (IsGood m secrets clock address body a which → judgement m mode secrets clock address body ≡ found (good a which))
-
--- ---- the age is that of serial arithmetic (RFC 1982, 32 bits)
-
--- n seconds after the timestamp it is the clock, or n + 1 seconds after the clock it is the timestamp; time goes round at 2 ^ 32
-abbrev pub Apart : ℕ → ℕ → ℤ → Type 0
-Apart clock timestamp (pos n) = (n < 2 ^ 31) × ((timestamp + n) % 2 ^ 32 ≡ clock)
-Apart clock timestamp (negsuc n) = (n < 2 ^ 31) × ((clock + suc n) % 2 ^ 32 ≡ timestamp)
-
-abbrev pub AgeIsSerial : Type 0
-AgeIsSerial =
-    (clock timestamp : ℕ) → clock < 2 ^ 32 → timestamp < 2 ^ 32 → (a : ℤ)
-    → (age clock timestamp ≡ a → Apart clock timestamp a) × (Apart clock timestamp a → age clock timestamp ≡ a)
 
 -- ---- a fresh cookie
 

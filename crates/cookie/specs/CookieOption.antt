@@ -8,7 +8,9 @@ use Rattle.octets.specs.Numbers.{beBytes}
 use Rattle.octets.specs.Refusals.{_when_, first}
 use Rattle.octets.specs.Runs.{sameRun}
 use Rattle.secret.specs.declared.Secret.{Secret}
-use Rattle.cookie.specs.ServerCookie.{CookieMethod, isAddress, refusalNumber}
+use Rattle.verdict.specs.declared.Carried.{Carried}
+use Rattle.verdict.specs.declared.Carried.the-variants.{Nothing, Fresh, Kept}
+use Rattle.cookie.specs.ServerCookie.{CookieMethod, clientCookie, isAddress, refusalNumber}
 use Rattle.cookie.specs.declared.Written.{Written}
 use Rattle.cookie.specs.declared.Written.the-variants.{Done, Refused}
 
@@ -59,3 +61,9 @@ outputAfter (suc n) option output = output
 -- a written option read back: its body, and nothing for what does not start with the head or is too short
 unfoldable pub writtenBody : List ℕ → List ℕ
 writtenBody s = cond (leb 28 (length s) && sameRun (take 4 s) optionHead) (take 24 (drop 4 s)) []
+
+-- the bytes of the option that a reply carries, none for no option: `outputAfter` then leaves the whole output
+abbrev pub carriedOption : CookieMethod → Secret → ℕ → List ℕ → List ℕ → Carried → List ℕ
+carriedOption m secret clock address body Nothing = []
+carriedOption m secret clock address body Fresh = freshOption m secret clock address (clientCookie body)
+carriedOption m secret clock address body Kept = keptOption body

@@ -3,6 +3,4 @@ pub mod Claims
 pub mod CookieOption
 pub mod Match
 pub mod PCases
-pub mod ReplyTable
-pub mod Serial
 pub mod ServerCookie

@@ -12,14 +12,16 @@ use Rattle.secret.specs.declared.Secrets.{Secrets}
 use Rattle.secret.specs.declared.Secrets.the-variants.{One, Two}
 use Rattle.secret.specs.Secret.{secretOf}
 use Rattle.secret.specs.Secrets.{generatingOf}
-use Rattle.cookie.specs.ReplyTable.{Owed, _carrying_, replyOwed, carriedOption}
-use Rattle.cookie.specs.ReplyTable.Sent.{serve, error}
-use Rattle.cookie.specs.ServerCookie.{Answer, Finding, sipHashMethod, judgement}
+use Rattle.verdict.specs.ReplyTable.{Owed, _carrying_, replyOwed}
+use Rattle.verdict.specs.ReplyTable.Sent.{serve, error}
+use Rattle.verdict.specs.Findings.{Finding}
+use Rattle.cookie.specs.CookieOption.{carriedOption}
+use Rattle.cookie.specs.ServerCookie.{Answer, sipHashMethod, judgement}
 use Rattle.cookie.specs.ServerCookie.Answer.{refused, found}
-use Rattle.cookie.specs.ServerCookie.Finding.{ignored, clientOnly, bad, good}
-use Rattle.cookie.specs.declared.Carried.the-variants.{Fresh, Kept}
-use Rattle.cookie.specs.declared.Mode.the-variants.{Enabled}
-use Rattle.cookie.specs.declared.Which.the-variants.{Generating, Other}
+use Rattle.verdict.specs.Findings.Finding.{ignored, clientOnly, bad, good}
+use Rattle.verdict.specs.declared.Carried.the-variants.{Fresh, Kept}
+use Rattle.verdict.specs.declared.Mode.the-variants.{Enabled}
+use Rattle.verdict.specs.declared.Which.the-variants.{Generating, Other}
 
 pub record Case : Type 0 where
   pub secrets : Secrets

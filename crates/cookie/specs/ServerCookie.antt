@@ -5,8 +5,7 @@ use mathlib.Core.Bool.{Bool, true, false, not, cond, _&&_, _||_}
 use mathlib.Core.List.{List, [], _∷_, _++_}
 use mathlib.Core.Option.{Option, none, some}
 use lib.Dec.{eqb, leb}
-use lib.IntN.{ℤ, pos, negsuc}
-use lib.Signed.{leZ}
+use lib.IntN.{ℤ}
 use lib.ListN.{length, take, drop, getD}
 use Rattle.octets.specs.Numbers.{be32At}
 use Rattle.octets.specs.Refusals.{_when_, first}
@@ -15,28 +14,19 @@ use Rattle.secret.specs.declared.Secret.{Secret}
 use Rattle.secret.specs.declared.Secrets.{Secrets}
 use Rattle.secret.specs.Secrets.{generatingOf, otherOf}
 use Rattle.siphash.specs.SipHash.{sipHash24Bytes}
-use Rattle.cookie.specs.Serial.{age}
+use Rattle.verdict.specs.Findings.{Finding, finding, byTime}
+use Rattle.verdict.specs.Findings.Finding.{ignored, clientOnly, bad}
+use Rattle.verdict.specs.Serial.{age}
+use Rattle.verdict.specs.declared.Mode.{Mode}
+use Rattle.verdict.specs.declared.Mode.the-variants.{Disabled, Enabled, Enforced}
+use Rattle.verdict.specs.declared.Which.{Which}
+use Rattle.verdict.specs.declared.Which.the-variants.{Generating, Other}
 use Rattle.cookie.specs.declared.Judged.{Judged}
 use Rattle.cookie.specs.declared.Judged.the-variants as judged-as
-use Rattle.cookie.specs.declared.Mode.{Mode}
-use Rattle.cookie.specs.declared.Mode.the-variants.{Disabled, Enabled, Enforced}
-use Rattle.cookie.specs.declared.Reason.{Reason}
-use Rattle.cookie.specs.declared.Reason.the-variants.{Method, Hash, Time}
 use Rattle.cookie.specs.declared.Refusal.{Refusal}
 use Rattle.cookie.specs.declared.Refusal.the-variants.{Output, Address, Body, NotKept}
-use Rattle.cookie.specs.declared.Verdict.{Verdict}
-use Rattle.cookie.specs.declared.Verdict.the-variants.{Ignored, Absent, ClientOnly, Bad, Good}
-use Rattle.cookie.specs.declared.Which.{Which}
-use Rattle.cookie.specs.declared.Which.the-variants.{Generating, Other}
 
 -- ---- the answers, in document 01's words and numbers
-
--- a verdict: the code's `Verdict` says it by names of its own, and `finding` below gives what they mean. A bad one has the number of the step that failed
--- first: 1 method, 2 hash, 3 time. Which secret matched (`Which`) has no number in document 01: its names, generating and other, are the code's too
-pub data Finding : Type 0 where
-  ignored absent clientOnly : Finding
-  bad : ℕ → Finding
-  good : ℤ → Which → Finding
 
 -- a refusal of the request table by its number, or the verdict
 pub data Answer : Type 0 where
@@ -44,18 +34,6 @@ pub data Answer : Type 0 where
   found : Finding → Answer
 
 -- ---- what the code's answers say. The cases `NamesHold` pin each
-
-abbrev pub stepOf : Reason → ℕ
-stepOf Method = 1
-stepOf Hash = 2
-stepOf Time = 3
-
-abbrev pub finding : Verdict → Finding
-finding Ignored = ignored
-finding Absent = absent
-finding ClientOnly = clientOnly
-finding (Bad reason) = bad (stepOf reason)
-finding (Good a which) = good a which
 
 -- 100 is no number of document 01's: a body that is not 24 bytes was never judged good and can't be kept
 abbrev pub refusalNumber : Refusal → ℕ
@@ -116,13 +94,7 @@ module _ (m : CookieMethod) where
   unfoldable pub matching : List ℕ → List ℕ → Secrets → Option Which
   matching message hash secrets = cond (matches message hash (generatingOf secrets)) (some Generating) (matchingOther message hash (otherOf secrets))
 
--- 3. good from -300 to 3,600
-unfoldable pub isTimely : ℤ → Bool
-isTimely a = leZ (negsuc 299) a && leZ a (pos 3600)
-
-unfoldable pub byTime : ℤ → Which → Finding
-byTime a which = cond (isTimely a) (good a which) (bad 3)
-
+-- 3. the age decides
 abbrev pub byHash : ℤ → Option Which → Finding
 byHash a none = bad 2
 byHash a (some which) = byTime a which

@@ -1,13 +1,13 @@
 // The verdict on a COOKIE body.
 use crate::Judged;
-use crate::Mode;
-use crate::Reason;
 use crate::Refusal;
-use crate::Verdict;
-use crate::Which;
 use crate::message;
 use secret::Secret;
 use secret::Secrets;
+use verdict::Mode;
+use verdict::Reason;
+use verdict::Verdict;
+use verdict::Which;
 ghost use mathlib.Core.Path.{_≡_};
 ghost use mathlib.Core.Bool.{true};
 ghost use mathlib.Core.List.{_++_};
@@ -15,37 +15,13 @@ ghost use Prim.Native.Nat.{_≤_};
 ghost use lib.ListN.{length};
 ghost use Rattle.octets.specs.Numbers.{leBytes, be32At};
 ghost use Rattle.cookie.specs.Match.{matchOf};
-ghost use Rattle.cookie.specs.Serial.{age};
-ghost use Rattle.cookie.specs.ServerCookie.{finding, answerOf, sipHashMethod, matches, matching, byTime, judgeBody, judgement, isDisabled, isAddress, isBody};
+ghost use Rattle.verdict.specs.Findings.{finding};
+ghost use Rattle.cookie.specs.ServerCookie.{answerOf, sipHashMethod, matches, matching, judgeBody, judgement, isDisabled, isAddress, isBody};
 
 // The secret that matches, if one does.
 enum Match {
     By(Which),
     Nothing,
-}
-
-// The age of a timestamp, in seconds.
-fn serial_age(clock: u32, timestamp: u32) -> i32
-    ensures { λ r. ⌜ r ≡ age clock timestamp ⌝ }
-{
-    let d = std::num::wrapping_sub_u32(clock, timestamp);
-    if d < 0x80000000 {
-        return d as i32;
-    }
-    -1 - (u32::MAX - d) as i32
-}
-
-// The last step: the hash is right under a secret, and the age decides.
-fn by_time(age: i32, secret: Which) -> Verdict
-    ensures { λ r. ⌜ finding r ≡ byTime age secret ⌝ }
-{
-    if age < -300 {
-        return Verdict::Bad(Reason::Time);
-    }
-    if 3600 < age {
-        return Verdict::Bad(Reason::Time);
-    }
-    Verdict::Good { age, secret }
 }
 
 // Bytes 12 to 15 of a body as a number.
@@ -100,7 +76,7 @@ fn judge_server(secrets: Secrets, clock: u32, address: &[u8], body: &[u8]) -> Ve
     let hash = message::word(body, 16);
     match matching(secrets, w0, w1, address, hash) {
         Match::Nothing => Verdict::Bad(Reason::Hash),
-        Match::By(secret) => by_time(serial_age(clock, timestamp(body)), secret),
+        Match::By(secret) => verdict::by_time(verdict::serial_age(clock, timestamp(body)), secret),
     }
 }
 

@@ -8,18 +8,18 @@ use crate::fields::SecretsField;
 use crate::hex;
 use crate::output;
 use crate::text;
-use cookie::Action;
-use cookie::Carried;
 use cookie::Judged;
-use cookie::Mode;
-use cookie::Reason;
 use cookie::Refusal;
-use cookie::Reply;
-use cookie::Verdict;
-use cookie::Which;
 use cookie::Written;
 use secret::Secret;
 use secret::Secrets;
+use verdict::Action;
+use verdict::Carried;
+use verdict::Mode;
+use verdict::Reason;
+use verdict::Reply;
+use verdict::Verdict;
+use verdict::Which;
 
 // What a `judge` line says of everything but the address and the body.
 enum Setting {
@@ -144,7 +144,7 @@ fn answer_found(line: &[u8], mode: Mode, qdcount: u16, verdict: Verdict, body: &
     if !say_verdict(verdict) {
         return false;
     }
-    say_reply(cookie::reply_for(mode, qdcount, verdict, body))
+    say_reply(verdict::reply_for(mode, qdcount, verdict, body))
 }
 
 fn answer_judged(line: &[u8], mode: Mode, qdcount: u16, judged: Judged, body: &[u8]) -> bool {

@@ -1,8 +1,8 @@
 // The fields of one size, read from their text.
 use crate::hex;
-use cookie::Mode;
 use secret::Secret;
 use secret::Secrets;
+use verdict::Mode;
 
 pub enum ModeField {
     Is(Mode),

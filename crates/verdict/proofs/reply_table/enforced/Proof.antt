@@ -1,9 +1,9 @@
--- `cookie::reply_table::enforced` meets its contract. A row of the table for each verdict. Assumes nothing.
-use Rattle.cookie.proofs.ReplyLaws.{enforced-good}
+-- `verdict::reply_table::enforced` meets its contract. A row of the table for each verdict. Assumes nothing.
+use Rattle.verdict.proofs.ReplyLaws.{enforced-good}
 use borrow.Author.Needs.{needs}
 use borrow.Author.Tests.{ne-eqb}
-use Rattle.cookie.proofs.reply_table.enforced.Statement.{statement}
-use Rattle.cookie.proofs.reply_table.enforced.Tie as tie
+use Rattle.verdict.proofs.reply_table.enforced.Statement.{statement}
+use Rattle.verdict.proofs.reply_table.enforced.Tie as tie
 
 returns : tie.Need-returns
 returns c = rw (c .enum-told .given .1)

@@ -6,12 +6,12 @@ use crate::Reply;
 use crate::Verdict;
 use crate::Which;
 ghost use mathlib.Core.Path.{_≡_};
-ghost use Rattle.cookie.specs.ServerCookie.{finding, serverCookie};
-ghost use Rattle.cookie.specs.ReplyTable.{owedOf, replyOwed, keptOrFresh, enabledReply, enforcedReply};
+ghost use Rattle.verdict.specs.Findings.{finding};
+ghost use Rattle.verdict.specs.ReplyTable.{owedOf, replyOwed, keptOrFresh, enabledReply, enforcedReply};
 
 // Whether a good cookie is sent again or a fresh one.
 fn kept_or_fresh(age: i32, secret: Which, body: &[u8]) -> Carried
-    ensures { λ r. ⌜ r ≡ keptOrFresh age secret (serverCookie (now (body .entry))) ⌝ }
+    ensures { λ r. ⌜ r ≡ keptOrFresh age secret (now (body .entry)) ⌝ }
 {
     match secret {
         Which::Generating => {}
@@ -34,7 +34,7 @@ fn kept_or_fresh(age: i32, secret: Which, body: &[u8]) -> Carried
 
 // The table's column for mode Enabled.
 fn enabled(verdict: Verdict, body: &[u8]) -> Reply
-    ensures { λ r. ⌜ owedOf r ≡ enabledReply (finding verdict) (serverCookie (now (body .entry))) ⌝ }
+    ensures { λ r. ⌜ owedOf r ≡ enabledReply (finding verdict) (now (body .entry)) ⌝ }
 {
     match verdict {
         Verdict::Ignored => Reply {
@@ -65,7 +65,7 @@ fn enabled(verdict: Verdict, body: &[u8]) -> Reply
 
 // The same for mode Enforced.
 fn enforced(qdcount: u16, verdict: Verdict, body: &[u8]) -> Reply
-    ensures { λ r. ⌜ owedOf r ≡ enforcedReply qdcount (finding verdict) (serverCookie (now (body .entry))) ⌝ }
+    ensures { λ r. ⌜ owedOf r ≡ enforcedReply qdcount (finding verdict) (now (body .entry)) ⌝ }
 {
     match verdict {
         Verdict::Ignored => Reply {

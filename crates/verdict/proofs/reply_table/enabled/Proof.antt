@@ -1,8 +1,8 @@
--- `cookie::reply_table::enabled` meets its contract. A row of the table for each verdict. Assumes nothing.
-use Rattle.cookie.proofs.ReplyLaws.{enabled-good}
+-- `verdict::reply_table::enabled` meets its contract. A row of the table for each verdict. Assumes nothing.
+use Rattle.verdict.proofs.ReplyLaws.{enabled-good}
 use borrow.Author.Needs.{needs}
-use Rattle.cookie.proofs.reply_table.enabled.Statement.{statement}
-use Rattle.cookie.proofs.reply_table.enabled.Tie as tie
+use Rattle.verdict.proofs.reply_table.enabled.Statement.{statement}
+use Rattle.verdict.proofs.reply_table.enabled.Tie as tie
 
 returns : tie.Need-returns
 returns c = rw (c .enum-told .given .1)

@@ -1,8 +1,8 @@
--- `cookie::server_cookie::serial_age` meets its contract. The wrapping difference is the difference modulo 2 ^ 32; from 2 ^ 31 on it is read as a negative number. Assumes nothing.
-use Rattle.cookie.proofs.SerialLaws.{age-after, age-fits, age-before}
+-- `verdict::serial::serial_age` meets its contract. The wrapping difference is the difference modulo 2 ^ 32; from 2 ^ 31 on it is read as a negative number. Assumes nothing.
+use Rattle.verdict.proofs.SerialLaws.{age-after, age-fits, age-before}
 use borrow.Author.Needs.{needs}
-use Rattle.cookie.proofs.server_cookie.serial_age.Statement.{statement}
-use Rattle.cookie.proofs.server_cookie.serial_age.Tie as tie
+use Rattle.verdict.proofs.serial.serial_age.Statement.{statement}
+use Rattle.verdict.proofs.serial.serial_age.Tie as tie
 
 returns : tie.Need-returns
 returns c = search (needs, age-after)

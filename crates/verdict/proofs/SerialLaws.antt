@@ -9,8 +9,8 @@ use lib.IntN.{ℤ, pos, negsuc, subℕ, _-ℤ_}
 use mir.Syntax.{w32}
 use mir.Val.{toZ, ofZ, SFits, Fits}
 use mir.ValLaws.{toZ-pos, toZ-ofZ}
-use Rattle.cookie.specs.Claims.{Apart, AgeIsSerial}
-use Rattle.cookie.specs.Serial.{difference, age}
+use Rattle.verdict.specs.Claims.{Apart, AgeIsSerial}
+use Rattle.verdict.specs.Serial.{difference, age}
 
 -- ---- by the difference
 

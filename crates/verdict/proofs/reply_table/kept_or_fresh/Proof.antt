@@ -1,8 +1,8 @@
--- `cookie::reply_table::kept_or_fresh` meets its contract. Each way to a fresh cookie, and the one to a kept. Assumes nothing.
-use Rattle.cookie.proofs.ReplyLaws.{fresh-ahead, fresh-old, fresh-short, fresh-reserved, kept-is}
+-- `verdict::reply_table::kept_or_fresh` meets its contract. Each way to a fresh cookie, and the one to a kept. Assumes nothing.
+use Rattle.verdict.proofs.ReplyLaws.{fresh-ahead, fresh-old, fresh-short, fresh-reserved, kept-is}
 use borrow.Author.Needs.{needs}
-use Rattle.cookie.proofs.reply_table.kept_or_fresh.Statement.{statement}
-use Rattle.cookie.proofs.reply_table.kept_or_fresh.Tie as tie
+use Rattle.verdict.proofs.reply_table.kept_or_fresh.Statement.{statement}
+use Rattle.verdict.proofs.reply_table.kept_or_fresh.Tie as tie
 
 returns-2 : tie.Need-returns-2
 returns-2 c = search (needs, fresh-ahead)

@@ -1,8 +1,8 @@
--- `cookie::server_cookie::by_time` meets its contract. The two bounds, read from the bits of a signed local. Assumes nothing.
-use Rattle.cookie.proofs.ServerLaws.{too-new, too-old, in-time}
+-- `verdict::serial::by_time` meets its contract. The two bounds, read from the bits of a signed local. Assumes nothing.
+use Rattle.verdict.proofs.TimeLaws.{too-new, too-old, in-time}
 use borrow.Author.Needs.{needs}
-use Rattle.cookie.proofs.server_cookie.by_time.Statement.{statement}
-use Rattle.cookie.proofs.server_cookie.by_time.Tie as tie
+use Rattle.verdict.proofs.serial.by_time.Statement.{statement}
+use Rattle.verdict.proofs.serial.by_time.Tie as tie
 
 returns : tie.Need-returns
 returns c = search (needs, too-new)

@@ -1,7 +1,7 @@
--- `cookie::reply_table::reply_for` meets its contract. A column of the table for each mode. Assumes nothing.
+-- `verdict::reply_table::reply_for` meets its contract. A column of the table for each mode. Assumes nothing.
 use borrow.Author.Needs.{needs}
-use Rattle.cookie.proofs.reply_table.reply_for.Statement.{statement}
-use Rattle.cookie.proofs.reply_table.reply_for.Tie as tie
+use Rattle.verdict.proofs.reply_table.reply_for.Statement.{statement}
+use Rattle.verdict.proofs.reply_table.reply_for.Tie as tie
 
 returns : tie.Need-returns
 returns c = rw (c .enum-told .given .1)

@@ -1,0 +1,4 @@
+pub mod Cases
+pub mod ReplyLaws
+pub mod SerialLaws
+pub mod TimeLaws

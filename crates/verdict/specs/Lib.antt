@@ -1,0 +1,5 @@
+pub mod Cases
+pub mod Claims
+pub mod Findings
+pub mod ReplyTable
+pub mod Serial
