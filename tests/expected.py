@@ -17,7 +17,8 @@ import sys
 
 HEX = set(b"0123456789abcdefABCDEF")
 LONGEST = 262143  # bytes of a line that `vectors` reads
-LARGEST = 65535  # bytes of an OUTPUT, ADDRESS, BODY or BUFFER
+LARGEST = 65535  # bytes of an OUTPUT, a BUFFER or a BODY to judge
+SHORT = 64  # bytes of an ADDRESS or a BODY to keep
 
 HEAD = bytes.fromhex("000a0018")  # option code 10, length 24
 NOT_KEPT = 100  # a body to keep that is not 24 bytes: this project's own number
@@ -159,10 +160,10 @@ def decode(field):
     return bytes.fromhex(field.decode())
 
 
-def part(field):
+def part(field, most=LARGEST):
     """An OUTPUT, ADDRESS, BODY or BUFFER."""
     got = decode(field)
-    if len(got) > LARGEST:
+    if len(got) > most:
         raise BadLine
     return got
 
@@ -190,19 +191,19 @@ def judge_line(siphash, mode, qdcount, generating, other, clock, address, body):
     qdcount = int.from_bytes(fixed(qdcount, 2), "big")
     generating, other = fixed(generating, 16), fixed(other, 0, 16)
     clock = int.from_bytes(fixed(clock, 4), "big")
-    address, body = part(address), None if body == b"none" else part(body)
+    address, body = part(address, SHORT), None if body == b"none" else part(body)
     found, keeps = verdict(siphash, mode, generating, other, clock, address, body)
     return f"refused {found}" if isinstance(found, int) else f"{found} {reply(mode, qdcount, found, keeps)}"
 
 
 def fresh_line(siphash, output, secret, clock, address, client):
     output, secret, clock = part(output), fixed(secret, 16), fixed(clock, 4)
-    refusal, after = write_fresh(siphash, output, secret, clock, part(address), fixed(client, 8))
+    refusal, after = write_fresh(siphash, output, secret, clock, part(address, SHORT), fixed(client, 8))
     return f"{refusal} {shown(after)}"
 
 
 def kept_line(_, output, body):
-    refusal, after = write_kept(part(output), part(body))
+    refusal, after = write_kept(part(output), part(body, SHORT))
     return f"{refusal} {shown(after)}"
 
 
@@ -307,7 +308,7 @@ class Maker:
 
     def address(self):
         if self.chance(8):
-            return self.some(self.size([0, 3, 5, 15, 17], 40))
+            return self.some(self.size([0, 3, 5, 15, 17, SHORT, SHORT + 1], 40))
         return self.some(self.dice.choice([4, 16]))
 
     def output(self):

@@ -189,7 +189,7 @@ fn judge(
 }
 
 // `judge MODE QDCOUNT GENERATING OTHER CLOCK ADDRESS BODY`
-pub fn judge_line(line: &[u8], number: u64, bytes: &mut [u8], others: &mut [u8]) -> bool {
+pub fn judge_line(line: &[u8], number: u64, bytes: &mut [u8]) -> bool {
     if text::fields(line) != 8 {
         return output::bad_line(number);
     }
@@ -202,8 +202,9 @@ pub fn judge_line(line: &[u8], number: u64, bytes: &mut [u8], others: &mut [u8])
     else {
         return output::bad_line(number);
     };
-    let address = hex::decode_part(text::field(line, 6), others);
-    if !address.ok {
+    let mut address = [0u8; 64];
+    let read = hex::decode(text::field(line, 6), &mut address);
+    if !read.ok {
         return output::bad_line(number);
     }
     if octets::same(text::field(line, 7), b"none") {
@@ -213,7 +214,7 @@ pub fn judge_line(line: &[u8], number: u64, bytes: &mut [u8], others: &mut [u8])
     if !body.ok {
         return output::bad_line(number);
     }
-    let n = address.count;
+    let n = read.count;
     let m = body.count;
     judge(
         line,
@@ -221,7 +222,7 @@ pub fn judge_line(line: &[u8], number: u64, bytes: &mut [u8], others: &mut [u8])
         qdcount,
         secrets,
         clock,
-        &others[0..n],
+        &address[0..n],
         &bytes[0..m],
     )
 }
@@ -245,21 +246,15 @@ fn answer_written(line: &[u8], written: Written, buffer: &[u8]) -> bool {
 }
 
 // Makes, once the secret and the clock are read.
-fn fresh(
-    line: &[u8],
-    number: u64,
-    secret: Secret,
-    clock: u32,
-    bytes: &mut [u8],
-    others: &mut [u8],
-) -> bool {
+fn fresh(line: &[u8], number: u64, secret: Secret, clock: u32, bytes: &mut [u8]) -> bool {
     let mut client = [0u8; 8];
     let client_read = hex::decode(text::field(line, 5), &mut client);
     if client_read.count != 8 {
         return output::bad_line(number);
     }
-    let address = hex::decode_part(text::field(line, 4), others);
-    if !address.ok {
+    let mut address = [0u8; 64];
+    let read = hex::decode(text::field(line, 4), &mut address);
+    if !read.ok {
         return output::bad_line(number);
     }
     let lent = hex::decode_part(text::field(line, 1), bytes);
@@ -267,13 +262,13 @@ fn fresh(
         return output::bad_line(number);
     }
     let n = lent.count;
-    let m = address.count;
-    let written = cookie::write_fresh(&mut bytes[0..n], secret, clock, &others[0..m], &client);
+    let m = read.count;
+    let written = cookie::write_fresh(&mut bytes[0..n], secret, clock, &address[0..m], &client);
     answer_written(line, written, &bytes[0..n])
 }
 
 // `fresh OUTPUT SECRET CLOCK ADDRESS CLIENT`
-pub fn fresh_line(line: &[u8], number: u64, bytes: &mut [u8], others: &mut [u8]) -> bool {
+pub fn fresh_line(line: &[u8], number: u64, bytes: &mut [u8]) -> bool {
     if text::fields(line) != 6 {
         return output::bad_line(number);
     }
@@ -283,11 +278,11 @@ pub fn fresh_line(line: &[u8], number: u64, bytes: &mut [u8], others: &mut [u8])
     let ClockField::Is(clock) = fields::clock(text::field(line, 3)) else {
         return output::bad_line(number);
     };
-    fresh(line, number, secret, clock, bytes, others)
+    fresh(line, number, secret, clock, bytes)
 }
 
 // `kept OUTPUT BODY`
-pub fn kept_line(line: &[u8], number: u64, bytes: &mut [u8], others: &mut [u8]) -> bool {
+pub fn kept_line(line: &[u8], number: u64, bytes: &mut [u8]) -> bool {
     if text::fields(line) != 3 {
         return output::bad_line(number);
     }
@@ -295,13 +290,14 @@ pub fn kept_line(line: &[u8], number: u64, bytes: &mut [u8], others: &mut [u8]) 
     if !lent.ok {
         return output::bad_line(number);
     }
-    let body = hex::decode_part(text::field(line, 2), others);
-    if !body.ok {
+    let mut body = [0u8; 64];
+    let read = hex::decode(text::field(line, 2), &mut body);
+    if !read.ok {
         return output::bad_line(number);
     }
     let n = lent.count;
-    let m = body.count;
-    let written = cookie::write_kept(&mut bytes[0..n], &others[0..m]);
+    let m = read.count;
+    let written = cookie::write_kept(&mut bytes[0..n], &body[0..m]);
     answer_written(line, written, &bytes[0..n])
 }
 

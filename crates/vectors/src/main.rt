@@ -14,7 +14,8 @@
 //     body BUFFER              the body of the COOKIE option that a buffer starts with
 //     # ..                     a comment, printed as it is, and so is an empty line
 //
-// Bytes are in hexadecimal, and `-` is none; numbers are big-endian. OUTPUT, ADDRESS, BODY and BUFFER have up to 65,535 bytes.
+// Bytes are in hexadecimal, and `-` is none; numbers are big-endian. OUTPUT, BUFFER and a BODY to judge have up to 65,535
+// bytes, ADDRESS and a BODY to keep up to 64.
 // Any other line is answered by `bad line` and its number; a line of more than 262,143 bytes by `long line` and its number, and
 // nothing after it is read.
 mod cookies;
@@ -103,20 +104,20 @@ fn comment_line(line: &[u8]) -> bool {
 }
 
 // Answers one line. False: nothing more can be written.
-fn run_line(line: &[u8], number: u64, bytes: &mut [u8], others: &mut [u8]) -> bool {
+fn run_line(line: &[u8], number: u64, bytes: &mut [u8]) -> bool {
     match verb_of(line) {
         Verb::Comment => comment_line(line),
         Verb::Hash => hash_line(line, number, bytes),
-        Verb::Judge => cookies::judge_line(line, number, bytes, others),
-        Verb::Fresh => cookies::fresh_line(line, number, bytes, others),
-        Verb::Kept => cookies::kept_line(line, number, bytes, others),
+        Verb::Judge => cookies::judge_line(line, number, bytes),
+        Verb::Fresh => cookies::fresh_line(line, number, bytes),
+        Verb::Kept => cookies::kept_line(line, number, bytes),
         Verb::Body => cookies::body_line(line, number, bytes),
         Verb::Unknown => output::bad_line(number),
     }
 }
 
 // Answers each whole line of a text.
-fn run_lines(lines: &[u8], first: u64, bytes: &mut [u8], others: &mut [u8]) -> Rest {
+fn run_lines(lines: &[u8], first: u64, bytes: &mut [u8]) -> Rest {
     let mut at = 0;
     let mut number = first;
     while at < lines.len() {
@@ -129,7 +130,7 @@ fn run_lines(lines: &[u8], first: u64, bytes: &mut [u8], others: &mut [u8]) -> R
                 more: true,
             };
         }
-        if !run_line(&rest[0..n], number, bytes, others) {
+        if !run_line(&rest[0..n], number, bytes) {
             return Rest {
                 start: at,
                 number,
@@ -147,13 +148,7 @@ fn run_lines(lines: &[u8], first: u64, bytes: &mut [u8], others: &mut [u8]) -> R
 }
 
 // Reads once behind what was kept, answers the lines that are whole by then, and keeps the rest.
-fn read_once(
-    buffer: &mut [u8],
-    kept: usize,
-    number: u64,
-    bytes: &mut [u8],
-    others: &mut [u8],
-) -> Turn {
+fn read_once(buffer: &mut [u8], kept: usize, number: u64, bytes: &mut [u8]) -> Turn {
     let done = Turn {
         kept: 0,
         number,
@@ -170,12 +165,12 @@ fn read_once(
     }
     if got == 0 {
         if 0 < kept {
-            run_line(&buffer[0..kept], number, bytes, others);
+            run_line(&buffer[0..kept], number, bytes);
         }
         return done;
     }
     let have = kept + io::count(got, &buffer[kept..]);
-    let rest = run_lines(&buffer[0..have], number, bytes, others);
+    let rest = run_lines(&buffer[0..have], number, bytes);
     let start = rest.start;
     Turn {
         kept: text::shift(buffer, start, have),
@@ -185,12 +180,12 @@ fn read_once(
 }
 
 // A proved loop has to end, and nothing says that the input does: it counts down from a number that no run uses up.
-fn run(buffer: &mut [u8], bytes: &mut [u8], others: &mut [u8]) {
+fn run(buffer: &mut [u8], bytes: &mut [u8]) {
     let mut kept = 0;
     let mut number = 1;
     let mut turns = u64::MAX;
     while 0 < turns {
-        let t = read_once(buffer, kept, number, bytes, others);
+        let t = read_once(buffer, kept, number, bytes);
         if !t.more {
             return;
         }
@@ -203,6 +198,5 @@ fn run(buffer: &mut [u8], bytes: &mut [u8], others: &mut [u8]) {
 fn main() {
     let mut buffer = [0u8; 262144];
     let mut bytes = [0u8; 131072];
-    let mut others = [0u8; 65535];
-    run(&mut buffer, &mut bytes, &mut others);
+    run(&mut buffer, &mut bytes);
 }
