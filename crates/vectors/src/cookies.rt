@@ -1,17 +1,11 @@
 // The verbs that run the crate `cookie`: judge, fresh, kept and body. Each answers one line. False: nothing more can be written.
 use crate::fields;
-use crate::fields::ClockField;
-use crate::fields::CountField;
-use crate::fields::ModeField;
-use crate::fields::SecretField;
-use crate::fields::SecretsField;
 use crate::hex;
 use crate::output;
 use crate::text;
 use cookie::Judged;
 use cookie::Refusal;
 use cookie::Written;
-use secret::Secret;
 use secret::Secrets;
 use verdict::Action;
 use verdict::Carried;
@@ -21,36 +15,28 @@ use verdict::Reply;
 use verdict::Verdict;
 use verdict::Which;
 
-// What a `judge` line says of everything but the address and the body.
-enum Setting {
-    Of {
-        mode: Mode,
-        qdcount: u16,
-        secrets: Secrets,
-        clock: u32,
-    },
-    Bad,
+// What a `judge` line says of everything but the address and the body, if it says it well.
+struct Setting {
+    ok: bool,
+    mode: Mode,
+    qdcount: u16,
+    secrets: Secrets,
+    clock: u32,
 }
 
 fn setting_of(line: &[u8]) -> Setting {
-    let ModeField::Is(mode) = fields::mode(text::field(line, 1)) else {
-        return Setting::Bad;
-    };
-    let CountField::Is(qdcount) = fields::count(text::field(line, 2)) else {
-        return Setting::Bad;
-    };
-    let SecretsField::Are(secrets) = fields::secrets(text::field(line, 3), text::field(line, 4))
-    else {
-        return Setting::Bad;
-    };
-    let ClockField::Is(clock) = fields::clock(text::field(line, 5)) else {
-        return Setting::Bad;
-    };
-    Setting::Of {
-        mode,
-        qdcount,
-        secrets,
-        clock,
+    let mode = fields::mode(text::field(line, 1));
+    let qdcount = fields::count(text::field(line, 2));
+    let secrets = fields::secrets(text::field(line, 3), text::field(line, 4));
+    let clock = fields::clock(text::field(line, 5));
+    let held = secrets.secrets;
+    let kind = mode.mode;
+    Setting {
+        ok: mode.ok & qdcount.ok & secrets.ok & clock.ok,
+        mode: kind,
+        qdcount: qdcount.count,
+        secrets: held,
+        clock: clock.clock,
     }
 }
 
@@ -115,18 +101,15 @@ fn say_verdict(verdict: Verdict) -> bool {
     }
 }
 
-fn say_action(action: Action) -> bool {
-    match action {
-        Action::Serve => output::say(b" serve"),
-        Action::BadCookie => output::say(b" badcookie"),
-        Action::Truncate => output::say(b" truncate"),
-    }
-}
-
 fn say_reply(reply: Reply) -> bool {
     let action = reply.action;
     let option = reply.option;
-    if !say_action(action) {
+    let is_said = match action {
+        Action::Serve => output::say(b" serve"),
+        Action::BadCookie => output::say(b" badcookie"),
+        Action::Truncate => output::say(b" truncate"),
+    };
+    if !is_said {
         return false;
     }
     match option {
@@ -165,27 +148,23 @@ fn answer_judged(line: &[u8], mode: Mode, qdcount: u16, judged: Judged, body: &[
     }
 }
 
-// The verdict of a request without a COOKIE option.
-fn without(mode: Mode) -> Verdict {
-    match mode {
+// Judges, once the body is one part of a buffer: it is lent twice, to be judged and for the reply.
+fn judge(line: &[u8], setting: Setting, address: &[u8], body: &[u8]) -> bool {
+    let mode = setting.mode;
+    let secrets = setting.secrets;
+    let judged = cookie::judge(mode, secrets, setting.clock, address, body);
+    answer_judged(line, mode, setting.qdcount, judged, body)
+}
+
+// A request without a COOKIE option.
+fn answer_without(line: &[u8], setting: Setting) -> bool {
+    let mode = setting.mode;
+    let verdict = match mode {
         Mode::Disabled => Verdict::Ignored,
         Mode::Enabled => Verdict::Absent,
         Mode::Enforced => Verdict::Absent,
-    }
-}
-
-// Judges, once the body is one part of a buffer: it is lent twice, to be judged and for the reply.
-fn judge(
-    line: &[u8],
-    mode: Mode,
-    qdcount: u16,
-    secrets: Secrets,
-    clock: u32,
-    address: &[u8],
-    body: &[u8],
-) -> bool {
-    let judged = cookie::judge(mode, secrets, clock, address, body);
-    answer_judged(line, mode, qdcount, judged, body)
+    };
+    answer_found(line, mode, setting.qdcount, verdict, b"")
 }
 
 // `judge MODE QDCOUNT GENERATING OTHER CLOCK ADDRESS BODY`
@@ -193,22 +172,14 @@ pub fn judge_line(line: &[u8], number: u64, bytes: &mut [u8]) -> bool {
     if text::fields(line) != 8 {
         return output::bad_line(number);
     }
-    let Setting::Of {
-        mode,
-        qdcount,
-        secrets,
-        clock,
-    } = setting_of(line)
-    else {
-        return output::bad_line(number);
-    };
+    let setting = setting_of(line);
     let mut address = [0u8; 64];
     let read = hex::decode(text::field(line, 6), &mut address);
-    if !read.ok {
+    if !(setting.ok & read.ok) {
         return output::bad_line(number);
     }
     if octets::same(text::field(line, 7), b"none") {
-        return answer_found(line, mode, qdcount, without(mode), b"");
+        return answer_without(line, setting);
     }
     let body = hex::decode_part(text::field(line, 7), bytes);
     if !body.ok {
@@ -216,15 +187,7 @@ pub fn judge_line(line: &[u8], number: u64, bytes: &mut [u8]) -> bool {
     }
     let n = read.count;
     let m = body.count;
-    judge(
-        line,
-        mode,
-        qdcount,
-        secrets,
-        clock,
-        &address[0..n],
-        &bytes[0..m],
-    )
+    judge(line, setting, &address[0..n], &bytes[0..m])
 }
 
 // The line, the refusal or 0, and the buffer afterwards.
@@ -245,54 +208,40 @@ fn answer_written(line: &[u8], written: Written, buffer: &[u8]) -> bool {
     output::say_last(buffer)
 }
 
-// Makes, once the secret and the clock are read.
-fn fresh(line: &[u8], number: u64, secret: Secret, clock: u32, bytes: &mut [u8]) -> bool {
+// `fresh OUTPUT SECRET CLOCK ADDRESS CLIENT`
+pub fn fresh_line(line: &[u8], number: u64, bytes: &mut [u8]) -> bool {
+    let secret = fields::secret(text::field(line, 2));
+    let clock = fields::clock(text::field(line, 3));
+    let mut address = [0u8; 64];
+    let read = hex::decode(text::field(line, 4), &mut address);
     let mut client = [0u8; 8];
     let client_read = hex::decode(text::field(line, 5), &mut client);
+    let lent = hex::decode_part(text::field(line, 1), bytes);
+    if text::fields(line) != 6 {
+        return output::bad_line(number);
+    }
     if client_read.count != 8 {
         return output::bad_line(number);
     }
-    let mut address = [0u8; 64];
-    let read = hex::decode(text::field(line, 4), &mut address);
-    if !read.ok {
-        return output::bad_line(number);
-    }
-    let lent = hex::decode_part(text::field(line, 1), bytes);
-    if !lent.ok {
+    if !(secret.ok & clock.ok & read.ok & lent.ok) {
         return output::bad_line(number);
     }
     let n = lent.count;
     let m = read.count;
-    let written = cookie::write_fresh(&mut bytes[0..n], secret, clock, &address[0..m], &client);
+    let made = secret.secret;
+    let written = cookie::write_fresh(&mut bytes[0..n], made, clock.clock, &address[0..m], &client);
     answer_written(line, written, &bytes[0..n])
-}
-
-// `fresh OUTPUT SECRET CLOCK ADDRESS CLIENT`
-pub fn fresh_line(line: &[u8], number: u64, bytes: &mut [u8]) -> bool {
-    if text::fields(line) != 6 {
-        return output::bad_line(number);
-    }
-    let SecretField::Is(secret) = fields::secret(text::field(line, 2)) else {
-        return output::bad_line(number);
-    };
-    let ClockField::Is(clock) = fields::clock(text::field(line, 3)) else {
-        return output::bad_line(number);
-    };
-    fresh(line, number, secret, clock, bytes)
 }
 
 // `kept OUTPUT BODY`
 pub fn kept_line(line: &[u8], number: u64, bytes: &mut [u8]) -> bool {
+    let mut body = [0u8; 64];
+    let read = hex::decode(text::field(line, 2), &mut body);
+    let lent = hex::decode_part(text::field(line, 1), bytes);
     if text::fields(line) != 3 {
         return output::bad_line(number);
     }
-    let lent = hex::decode_part(text::field(line, 1), bytes);
-    if !lent.ok {
-        return output::bad_line(number);
-    }
-    let mut body = [0u8; 64];
-    let read = hex::decode(text::field(line, 2), &mut body);
-    if !read.ok {
+    if !(read.ok & lent.ok) {
         return output::bad_line(number);
     }
     let n = lent.count;

@@ -1,91 +1,99 @@
-// The fields of one size, read from their text.
+// The fields of one size, read from their text. Where a field is not well written, `ok` is false and its value is any.
 use crate::hex;
 use secret::Secret;
 use secret::Secrets;
 use verdict::Mode;
 
-pub enum ModeField {
-    Is(Mode),
-    Bad,
+pub struct ModeField {
+    pub ok: bool,
+    pub mode: Mode,
 }
 
-pub enum CountField {
-    Is(u16),
-    Bad,
+pub struct CountField {
+    pub ok: bool,
+    pub count: u16,
 }
 
-pub enum ClockField {
-    Is(u32),
-    Bad,
+pub struct ClockField {
+    pub ok: bool,
+    pub clock: u32,
 }
 
-pub enum SecretField {
-    Is(Secret),
-    // `-`
-    Nothing,
-    Bad,
+pub struct SecretField {
+    pub ok: bool,
+    pub secret: Secret,
 }
 
-pub enum SecretsField {
-    Are(Secrets),
-    Bad,
+pub struct SecretsField {
+    pub ok: bool,
+    pub secrets: Secrets,
 }
 
 pub fn mode(text: &[u8]) -> ModeField {
-    if octets::same(text, b"disabled") {
-        return ModeField::Is(Mode::Disabled);
-    }
     if octets::same(text, b"enabled") {
-        return ModeField::Is(Mode::Enabled);
+        return ModeField {
+            ok: true,
+            mode: Mode::Enabled,
+        };
     }
     if octets::same(text, b"enforced") {
-        return ModeField::Is(Mode::Enforced);
+        return ModeField {
+            ok: true,
+            mode: Mode::Enforced,
+        };
     }
-    ModeField::Bad
+    ModeField {
+        ok: octets::same(text, b"disabled"),
+        mode: Mode::Disabled,
+    }
 }
 
 // Two bytes, big-endian.
 pub fn count(text: &[u8]) -> CountField {
     let mut bytes = [0u8; 2];
     let read = hex::decode(text, &mut bytes);
-    if read.count != 2 {
-        return CountField::Bad;
+    CountField {
+        ok: read.count == 2,
+        count: octets::be16(bytes[0], bytes[1]),
     }
-    CountField::Is(octets::be16(bytes[0], bytes[1]))
 }
 
 // Four bytes, big-endian.
 pub fn clock(text: &[u8]) -> ClockField {
     let mut bytes = [0u8; 4];
     let read = hex::decode(text, &mut bytes);
-    if read.count != 4 {
-        return ClockField::Bad;
+    ClockField {
+        ok: read.count == 4,
+        clock: octets::be32(bytes[0], bytes[1], bytes[2], bytes[3]),
     }
-    ClockField::Is(octets::be32(bytes[0], bytes[1], bytes[2], bytes[3]))
 }
 
 pub fn secret(text: &[u8]) -> SecretField {
     let mut bytes = [0u8; 16];
     let read = hex::decode(text, &mut bytes);
-    if read.count == 16 {
-        return SecretField::Is(Secret::read(&bytes));
+    SecretField {
+        ok: read.count == 16,
+        secret: Secret::read(&bytes),
     }
-    if read.ok {
-        if read.count == 0 {
-            return SecretField::Nothing;
-        }
-    }
-    SecretField::Bad
 }
 
 // A generating secret, and another or `-`.
-pub fn secrets(first: &[u8], second: &[u8]) -> SecretsField {
-    let SecretField::Is(generating) = secret(first) else {
-        return SecretsField::Bad;
-    };
-    match secret(second) {
-        SecretField::Is(other) => SecretsField::Are(Secrets::Two { generating, other }),
-        SecretField::Nothing => SecretsField::Are(Secrets::One(generating)),
-        SecretField::Bad => SecretsField::Bad,
+pub fn secrets(generating: &[u8], other: &[u8]) -> SecretsField {
+    let first = secret(generating);
+    let generates = first.secret;
+    if octets::same(other, b"-") {
+        return SecretsField {
+            ok: first.ok,
+            secrets: Secrets::One(generates),
+        };
+    }
+    let second = secret(other);
+    let accepts = second.secret;
+    SecretsField {
+        ok: first.ok & second.ok,
+        secrets: Secrets::Two {
+            generating: generates,
+            other: accepts,
+        },
     }
 }

@@ -24,7 +24,6 @@ mod hex;
 mod output;
 mod text;
 
-use fields::SecretField;
 use libc::STDIN_FILENO;
 
 // What a line asks for.
@@ -54,22 +53,20 @@ struct Rest {
 
 // `siphash24 KEY MESSAGE`
 fn hash_line(line: &[u8], number: u64, bytes: &mut [u8]) -> bool {
+    let key = fields::secret(text::field(line, 1));
+    let message = hex::decode(text::field(line, 2), bytes);
     if text::fields(line) != 3 {
         return output::bad_line(number);
     }
-    let SecretField::Is(key) = fields::secret(text::field(line, 1)) else {
-        return output::bad_line(number);
-    };
-    let message = hex::decode(text::field(line, 2), bytes);
-    if !message.ok {
+    if !(key.ok & message.ok) {
         return output::bad_line(number);
     }
     if !output::say(line) {
         return false;
     }
     let n = message.count;
-    let hash = siphash::siphash24_bytes(key, &bytes[0..n]);
-    output::say_last(&hash)
+    let secret = key.secret;
+    output::say_last(&siphash::siphash24_bytes(secret, &bytes[0..n]))
 }
 
 fn verb_of(line: &[u8]) -> Verb {
