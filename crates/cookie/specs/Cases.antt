@@ -23,19 +23,23 @@ use Rattle.cookie.specs.declared.Refusal.the-variants.{Output, Address, 
 use Rattle.verdict.specs.declared.Verdict.the-variants.{ClientOnly}
 use Rattle.verdict.specs.declared.Which.the-variants.{Generating, Other}
 
--- P1's address, cookie and second; another secret; sixteen zero bytes
+-- P1's address
 abbrev pub address : List ℕ
 address = printed 4 0xc6336464
 
+-- its cookie
 abbrev pub cookie : List ℕ
 cookie = printed 24 0x2464c4abcf10c957010000005cf79f111f8130c3eee29480
 
+-- the second that it was made in
 abbrev pub second : ℕ
 second = 0x5cf79f11
 
+-- another secret, P5's
 abbrev pub another : Secret
 another = secretOf (printed 16 0xdd3bdf9344b678b185a6f5cb60fca715)
 
+-- sixteen zero bytes
 abbrev pub zeros : Secret
 zeros = secretOf (printed 16 0)
 

@@ -58,6 +58,7 @@ GoodExactlyWhen =
 
 -- ---- a fresh cookie
 
+-- a method's hash is eight bytes
 abbrev pub EightBytes : CookieMethod → Type 0
 EightBytes m = (secret : Secret) (message : List ℕ) → length (m .hash secret message) ≡ 8
 
@@ -82,6 +83,7 @@ module _ (m : CookieMethod) (secret : Secret) (secrets : Secrets) (mode : Mode) 
     -- and for whoever makes with it, by that secret
     pub by-maker : generatingOf secrets ≡ secret → JudgedGood Generating
 
+-- the claim
 abbrev pub FreshIsGood : Type 0
 FreshIsGood =
     (m : CookieMethod) → EightBytes m → (secret : Secret) (secrets : Secrets) (mode : Mode) → (mode ≡ Disabled → ⊥)

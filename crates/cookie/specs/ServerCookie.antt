@@ -42,6 +42,7 @@ refusalNumber Address = 2
 refusalNumber Body = 10
 refusalNumber NotKept = 100
 
+-- what `judge` answers
 abbrev pub answerOf : Judged → Answer
 answerOf (judged-as.Refused refusal) = refused (refusalNumber refusal)
 answerOf (judged-as.Found verdict) = found (finding verdict)
@@ -59,15 +60,19 @@ sipHashMethod = record { version = 1; hash = sipHash24Bytes }
 
 -- ---- the parts
 
+-- bytes 0 to 7 of a COOKIE body
 abbrev pub clientCookie : List ℕ → List ℕ
 clientCookie body = take 8 body
 
+-- the rest of it
 abbrev pub serverCookie : List ℕ → List ℕ
 serverCookie body = drop 8 body
 
+-- bytes 4 to 7 of a server cookie
 abbrev pub timestamp : List ℕ → ℕ
 timestamp server = be32At server 4
 
+-- bytes 8 to 15
 abbrev pub hashField : List ℕ → List ℕ
 hashField server = take 8 (drop 8 server)
 
@@ -109,10 +114,12 @@ module _ (m : CookieMethod) where
       (byHash (age clock (timestamp server)) (matching m (hashed client server address) (hashField server) secrets))
       (bad 1)
 
+  -- a client cookie alone has no server cookie to judge
   unfoldable pub judgeBody : Secrets → ℕ → List ℕ → List ℕ → Finding
   judgeBody secrets clock address body =
       cond (eqb (length body) 8) clientOnly (judgeServer secrets clock address (clientCookie body) (serverCookie body))
 
+  -- by the mode
   abbrev pub verdict : Mode → Secrets → ℕ → List ℕ → List ℕ → Finding
   verdict Disabled secrets clock address body = ignored
   verdict Enabled secrets clock address body = judgeBody secrets clock address body
@@ -120,6 +127,7 @@ module _ (m : CookieMethod) where
 
 -- ---- the refusals that an address and a COOKIE body can get, in the order of the checks
 
+-- mode Disabled skips check 10
 abbrev pub isDisabled : Mode → Bool
 isDisabled Disabled = true
 isDisabled Enabled = false
@@ -133,12 +141,14 @@ isAddress address = eqb (length address) 4 || eqb (length address) 16
 unfoldable pub isBody : List ℕ → Bool
 isBody body = eqb (length body) 8 || leb 16 (length body) && leb (length body) 40
 
+-- the number of the first that applies, 0 for none
 unfoldable pub checkingRefusal : Mode → List ℕ → List ℕ → ℕ
 checkingRefusal mode address body =
     first (2 when not (isAddress address)
     ∷ 10 when (not (isDisabled mode) && not (isBody body))
     ∷ [])
 
+-- the refusal if there is one, otherwise the verdict
 abbrev pub answer : ℕ → Finding → Answer
 answer zero v = found v
 answer (suc n) v = refused (suc n)

@@ -9,6 +9,7 @@ pub record Row : Type 0 where
   pub number : ℕ
   pub applies : Bool
 
+-- a row as it is written in a table
 infix 68 _when_
 abbrev pub _when_ : ℕ → Bool → Row
 n when b = record { number = n; applies = b }

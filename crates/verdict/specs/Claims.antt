@@ -9,6 +9,7 @@ abbrev pub Apart : ℕ → ℕ → ℤ → Type 0
 Apart clock timestamp (pos n) = (n < 2 ^ 31) × ((timestamp + n) % 2 ^ 32 ≡ clock)
 Apart clock timestamp (negsuc n) = (n < 2 ^ 31) × ((clock + suc n) % 2 ^ 32 ≡ timestamp)
 
+-- the claim, both ways: an age is so, and what is so is the age
 abbrev pub AgeIsSerial : Type 0
 AgeIsSerial =
     (clock timestamp : ℕ) → clock < 2 ^ 32 → timestamp < 2 ^ 32 → (a : ℤ)

@@ -16,11 +16,13 @@ pub data Finding : Type 0 where
   bad : ℕ → Finding
   good : ℤ → Which → Finding
 
+-- the step of document 01 that a reason names
 abbrev pub stepOf : Reason → ℕ
 stepOf Method = 1
 stepOf Hash = 2
 stepOf Time = 3
 
+-- what a verdict of the code says
 abbrev pub finding : Verdict → Finding
 finding Ignored = ignored
 finding Absent = absent
@@ -34,5 +36,6 @@ finding (Good a which) = good a which
 unfoldable pub isTimely : ℤ → Bool
 isTimely a = leZ (negsuc 299) a && leZ a (pos 3600)
 
+-- the verdict on a cookie whose hash is right
 unfoldable pub byTime : ℤ → Which → Finding
 byTime a which = cond (isTimely a) (good a which) (bad 3)

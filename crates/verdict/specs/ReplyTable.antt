@@ -29,6 +29,7 @@ pub record Owed : Type 0 where
   pub sent : Sent
   pub option : Carried
 
+-- a reply as it is written in the table
 infix 68 _carrying_
 abbrev pub _carrying_ : Sent → Carried → Owed
 s carrying o = record { sent = s; option = o }
@@ -39,6 +40,7 @@ sentOf Serve = serve
 sentOf BadCookie = error 23
 sentOf Truncate = truncate
 
+-- both together
 abbrev pub owedOf : Reply → Owed
 owedOf r = sentOf (r .action) carrying r .option
 
@@ -55,7 +57,7 @@ abbrev pub keptOrFresh : ℤ → Which → List ℕ → Carried
 keptOrFresh a Generating body = cond (reservedZero body && isYoung a) Kept Fresh
 keptOrFresh a Other body = Fresh
 
--- the table. In mode Disabled every request is served with no option, and so is an ignored cookie in the others
+-- the table's column for mode Enabled. An ignored cookie is served with no option in every mode
 abbrev pub enabledReply : Finding → List ℕ → Owed
 enabledReply ignored body = serve carrying Nothing
 enabledReply absent body = serve carrying Nothing
@@ -63,6 +65,7 @@ enabledReply clientOnly body = serve carrying Fresh
 enabledReply (bad n) body = error 23 carrying Fresh
 enabledReply (good a w) body = serve carrying keptOrFresh a w body
 
+-- the table's column for mode Enforced
 abbrev pub enforcedReply : ℕ → Finding → List ℕ → Owed
 enforcedReply qdcount ignored body = serve carrying Nothing
 enforcedReply qdcount absent body = truncate carrying Nothing
@@ -70,6 +73,7 @@ enforcedReply qdcount clientOnly body = cond (eqb qdcount 0) serve (error 23) ca
 enforcedReply qdcount (bad n) body = error 23 carrying Fresh
 enforcedReply qdcount (good a w) body = serve carrying keptOrFresh a w body
 
+-- the whole table. In mode Disabled every request is served with no option
 abbrev pub replyOwed : Mode → ℕ → Finding → List ℕ → Owed
 replyOwed Disabled qdcount v body = serve carrying Nothing
 replyOwed Enabled qdcount v body = enabledReply v body
