@@ -1,4 +1,4 @@
--- What the proofs of message cite: lengths, words of bytes, and the hash of words. Assumes nothing.
+-- What the proofs of `is_address`, `is_body`, `word` and `hash` cite: lengths, words of bytes, and the hash of words. Assumes nothing.
 use mathlib.Core.Path.{_≡_, sym, ap, ap₂, _∙_}
 use mathlib.Core.Bool.{true, false}
 use mathlib.Core.List.{List, [], _∷_, _++_, append-assoc}

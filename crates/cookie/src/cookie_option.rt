@@ -1,7 +1,6 @@
 // The COOKIE option of a reply, 28 bytes, written into a lent buffer and read back.
 use crate::Refusal;
 use crate::Written;
-use crate::message;
 use secret::Secret;
 ghost use mathlib.Core.Path.{_≡_};
 ghost use mathlib.Core.List.{_++_};
@@ -49,12 +48,12 @@ pub fn write_fresh(
     if output.len() < 28 {
         return Written::Refused(Refusal::Output);
     }
-    if !message::is_address(address) {
+    if !crate::is_address(address) {
         return Written::Refused(Refusal::Address);
     }
-    let w0 = message::word(client, 0);
+    let w0 = crate::word(client, 0);
     let w1 = front(clock);
-    write_words(output, w0, w1, message::hash(secret, w0, w1, address));
+    write_words(output, w0, w1, crate::hash(secret, w0, w1, address));
     Written::Done
 }
 
@@ -73,9 +72,9 @@ pub fn write_kept(output: &mut [u8], body: &[u8]) -> Written
     }
     write_words(
         output,
-        message::word(body, 0),
-        message::word(body, 8),
-        message::word(body, 16),
+        crate::word(body, 0),
+        crate::word(body, 8),
+        crate::word(body, 16),
     );
     Written::Done
 }

@@ -1,7 +1,6 @@
 // The verdict on a COOKIE body.
 use crate::Judged;
 use crate::Refusal;
-use crate::message;
 use secret::Secret;
 use secret::Secrets;
 use verdict::Mode;
@@ -37,7 +36,7 @@ fn has_hash(secret: Secret, w0: u64, w1: u64, address: &[u8], hash: u64) -> bool
     requires { ⌜ isAddress (now address) ≡ true ⌝ }
     ensures { λ r. ⌜ r ≡ matches sipHashMethod (leBytes 8 w0 ++ leBytes 8 w1 ++ now (address .entry)) (leBytes 8 hash) secret ⌝ }
 {
-    message::hash(secret, w0, w1, address) == hash
+    crate::hash(secret, w0, w1, address) == hash
 }
 
 // Step 2: the generating secret first, and the other only where that one does not match.
@@ -71,9 +70,9 @@ fn judge_server(secrets: Secrets, clock: u32, address: &[u8], body: &[u8]) -> Ve
     if body[8] != 1 {
         return Verdict::Bad(Reason::Method);
     }
-    let w0 = message::word(body, 0);
-    let w1 = message::word(body, 8);
-    let hash = message::word(body, 16);
+    let w0 = crate::word(body, 0);
+    let w1 = crate::word(body, 8);
+    let hash = crate::word(body, 16);
     match matching(secrets, w0, w1, address, hash) {
         Match::Nothing => Verdict::Bad(Reason::Hash),
         Match::By(secret) => verdict::by_time(verdict::serial_age(clock, timestamp(body)), secret),
@@ -119,7 +118,7 @@ fn is_body(body: &[u8]) -> bool
 pub fn judge(mode: Mode, secrets: Secrets, clock: u32, address: &[u8], body: &[u8]) -> Judged
     ensures { λ r. ⌜ answerOf r ≡ judgement sipHashMethod mode secrets clock (now (address .entry)) (now (body .entry)) ⌝ }
 {
-    if !message::is_address(address) {
+    if !crate::is_address(address) {
         return Judged::Refused(Refusal::Address);
     }
     if is_disabled(mode) {

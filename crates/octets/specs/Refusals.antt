@@ -9,8 +9,8 @@ pub record Row : Type 0 where
   pub number : ℕ
   pub applies : Bool
 
--- a row as it is written in a table
 infix 68 _when_
+-- a row as it is written in a table
 abbrev pub _when_ : ℕ → Bool → Row
 n when b = record { number = n; applies = b }
 

@@ -29,8 +29,8 @@ pub record Owed : Type 0 where
   pub sent : Sent
   pub option : Carried
 
--- a reply as it is written in the table
 infix 68 _carrying_
+-- a reply as it is written in the table
 abbrev pub _carrying_ : Sent → Carried → Owed
 s carrying o = record { sent = s; option = o }
 

@@ -1,8 +1,8 @@
--- `cookie::message::word` meets its contract. Eight bytes read as a word are the bytes of that word. Assumes nothing.
+-- `cookie::word` meets its contract. Eight bytes read as a word are the bytes of that word. Assumes nothing.
 use Rattle.cookie.proofs.MessageLaws.{word-is}
 use borrow.Author.Needs.{needs}
-use Rattle.cookie.proofs.message.word.Statement.{statement}
-use Rattle.cookie.proofs.message.word.Tie as tie
+use Rattle.cookie.proofs.word.Statement.{statement}
+use Rattle.cookie.proofs.word.Tie as tie
 
 returns : tie.Need-returns
 returns c = search (needs, word-is)

@@ -1,9 +1,9 @@
--- `cookie::message::hash` meets its contract. The words of an address of 4 or 16 bytes are its bytes. Assumes nothing.
+-- `cookie::hash` meets its contract. The words of an address of 4 or 16 bytes are its bytes. Assumes nothing.
 use Rattle.cookie.proofs.MessageLaws.{address-16, hash-4, hash-16}
 use borrow.Author.Needs.{needs}
 use native.Mathlib.Omega.{arith}
-use Rattle.cookie.proofs.message.hash.Statement.{statement}
-use Rattle.cookie.proofs.message.hash.Tie as tie
+use Rattle.cookie.proofs.hash.Statement.{statement}
+use Rattle.cookie.proofs.hash.Tie as tie
 
 returns : tie.Need-returns
 returns c = search (needs, hash-4)
