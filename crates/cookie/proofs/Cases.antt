@@ -1,5 +1,8 @@
 -- The claims of specs/Cases.antt, by computing the definitions. Assumes nothing.
 use mathlib.Core.Path.{refl}
+use borrow.Author.Tests.{le-ltb, lt-ltb, ne-eqb}
+use native.Mathlib.Omega.{arith}
+use lib.ListN.{length}
 use Rattle.octets.specs.Numbers.{leNumber, leBytes, beNumber, beBytes, printed}
 use Rattle.octets.specs.Runs.{sameRun}
 use Rattle.secret.specs.Secret.{secretOf}
@@ -120,9 +123,8 @@ names-hold =
       no-body = refl;
       not-kept = refl;
       done = refl;
-      judged-address = refl;
-      judged-body = refl;
-      judged = refl;
+      judged-refused = λ r. refl;
+      judged = λ v. refl;
     }
 
 pub lengths-hold : LengthsHold
@@ -134,6 +136,13 @@ lengths-hold =
       making-addresses = refl;
       outputs = refl;
       kept-outputs = refl;
+      kept-bodies = refl;
+      fresh-no-address = λ o a e room. rw (le-ltb (length o) 28 room, e);
+      kept-other = λ o b ne room. rw (le-ltb (length o) 28 room, ne-eqb (length b) 24 ne);
+      fresh-no-room = λ o a le. rw (lt-ltb (length o) 28 (omega arith));
+      kept-no-room = λ o b le. rw (lt-ltb (length o) 28 (omega arith));
+      the-hash = λ s l. refl;
+      no-option = λ m s c a b. refl;
       large = refl;
       kept-large = refl;
     }

@@ -1,10 +1,10 @@
 -- The claims `WrittenWhole`, `SipHashEight` and `FreshIsGood` of specs/Claims.antt. Assumes nothing.
 use mathlib.Core.Path.{_≡_, refl, sym, ap, _∙_}
-use mathlib.Core.Bool.{Bool, true, false, true≢false}
+use mathlib.Core.Bool.{Bool, true, false, _&&_, true≢false}
 use mathlib.Core.List.{List, _++_, append-assoc}
 use Prim.Native.Nat.{ℕ, suc, _+_, _-_, _%_, _^_, _≤_, _<_}
 use native.Mathlib.Omega.{arith}
-use borrow.Author.Tests.{le-ltb, le-leb}
+use borrow.Author.Tests.{le-ltb, le-leb, lt-leb}
 use lib.Dec.{ltb, leb, le→leb}
 use lib.IntN.{ℤ, pos, negsuc, subℕ}
 use lib.ListN.{length, take, drop, getD, length-append, length-drop}
@@ -100,10 +100,24 @@ module _ (m : CookieMethod) (eight : EightBytes m) (secret : Secret) (clock : �
   unfolding freshOption
   fresh-holds output room from = rw (fresh-taken output address room from) (option-holds (client ++ freshServer m secret clock address client) output length-body room)
 
+and-no : (x : Bool) → (x && false) ≡ false
+and-no true = refl
+and-no false = refl
+
+other-run : (x y : List ℕ) → (x ≡ y → ⊥) → sameRun x y ≡ false
+other-run x y ne = go (sameRun x y) refl
+  where
+    go : (t : Bool) → sameRun x y ≡ t → t ≡ false
+    go true e = absurd (ne (same-true x y e))
+    go false e = refl
+
 pub written-whole : WrittenWhole
-unfolding keptOption
+unfolding keptOption freshServer freshFront writtenBody
 written-whole =
     record {
+      fresh-parts = λ m secret clock address client. refl;
+      back-short = λ s le. rw (lt-leb 28 (length s) (omega arith));
+      back-other = λ s ne. rw (other-run (take 4 s) optionHead ne, and-no (leb 28 (length s)));
       fresh = λ m eight secret clock address client output room from long. fresh-holds m eight secret clock address client long output room from;
       kept = λ body output room long. rw (kept-taken body output room long) (option-holds body output long room);
     }

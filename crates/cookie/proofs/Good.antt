@@ -1,12 +1,12 @@
--- The claim `GoodExactlyWhen` of specs/Claims.antt. Assumes nothing.
+-- The claims `GoodExactlyWhen` and `EveryOtherAnswer` of specs/Claims.antt. Assumes nothing.
 use mathlib.Core.Path.{_≡_, refl, sym, ap, _∙_}
 use mathlib.Core.Bool.{Bool, true, false, not, cond, _&&_, _||_, true≢false, false≢true}
 use mathlib.Core.List.{List, _++_}
 use mathlib.Core.Option.{Option, none, some}
-use Prim.Native.Nat.{ℕ}
+use Prim.Native.Nat.{ℕ, _+_}
 use native.Mathlib.Decide.{ℕ-discrete}
 use native.Mathlib.Omega.{arith}
-use borrow.Author.Tests.{eqb-true}
+use borrow.Author.Tests.{eqb-true, lt-leb}
 use lib.Dec.{T, eqb}
 use lib.IntN.{ℤ, pos, negsuc}
 use lib.ListN.{length, take, drop, getD}
@@ -17,9 +17,9 @@ use Rattle.octets.proofs.RunLaws.{same-refl, same-true}
 use Rattle.secret.specs.declared.Secret.{Secret}
 use Rattle.secret.specs.declared.Secrets.{Secrets}
 use Rattle.secret.specs.Secrets.{generatingOf, otherOf}
-use Rattle.cookie.proofs.BodyLaws.{judge-8, judge-other, judge-24, judge-matching}
-use Rattle.cookie.proofs.MessageLaws.{is-4, is-16, is-between}
-use Rattle.cookie.specs.Claims.{HashedUnder, MatchedBy, AnAddress, IsGood, GoodExactlyWhen}
+use Rattle.cookie.proofs.BodyLaws.{judge-8, judge-other, judge-24, judge-version, judge-matching}
+use Rattle.cookie.proofs.MessageLaws.{is-4, is-16, is-8, is-short, is-long, is-between}
+use Rattle.cookie.specs.Claims.{HashedUnder, MatchedBy, AnAddress, IsGood, GoodExactlyWhen, OthersHold, EveryOtherAnswer}
 use Rattle.cookie.specs.Claims.AnAddress.{four, sixteen}
 use Rattle.verdict.specs.Serial.{age}
 use Rattle.verdict.specs.Findings.{Finding, isTimely, byTime}
@@ -222,5 +222,57 @@ module _ (m : CookieMethod) (secrets : Secrets) (clock : ℕ) (address body : Li
       legal : length body ≡ 24 → isBody body ≡ true
       legal long = sym (is-between body (λ e. omega (arith, long, e)) (omega arith) (omega arith))
 
+not-address : (address : List ℕ) → (AnAddress address → ⊥) → isAddress address ≡ false
+not-address address ne = go (isAddress address) refl
+  where
+    go : (t : Bool) → isAddress address ≡ t → t ≡ false
+    go true e = absurd (ne (true-address address e))
+    go false e = refl
+
+module _ (m : CookieMethod) (secrets : Secrets) (clock : ℕ) (address body : List ℕ) where
+  abbrev enabled : judgement m Enabled secrets clock address body
+      ≡ cond (isAddress address) (cond (isBody body) (found (judgeBody m secrets clock address body)) (refused 10)) (refused 2)
+  enabled = judged m secrets clock address body (pos 0) Generating Enabled (λ e. true≢false (ap isOn e))
+    where
+      isOn : Mode → Bool
+      isOn Disabled = false
+      isOn Enabled = true
+      isOn Enforced = true
+
+  abbrev step2 : Option Which
+  step2 = matching m (take 16 body ++ address) (take 8 (drop 16 body)) secrets
+
+  none-matches : ((w : Which) → MatchedBy m secrets address body w → ⊥) → step2 ≡ none
+  none-matches ne = go step2 refl
+    where
+      go : (o : Option Which) → step2 ≡ o → o ≡ none
+      go none e = refl
+      go (some w) e = absurd (ne w (match-good m secrets address body w e))
+
+  in-24 : length body ≡ 24 → isBody body ≡ true
+  in-24 long = sym (is-between body (λ e. omega (arith, long, e)) (omega arith) (omega arith))
+
+  pub others-hold : OthersHold m secrets clock address body
+  unfolding judgement checkingRefusal byTime isTimely
+  others-hold =
+      record {
+        no-address = λ mode ne. rw (not-address address ne);
+        disabled = λ from. rw (address-true address from);
+        too-short = λ from n8 le. enabled ∙ rw (address-true address from, ← is-short body n8 (omega arith));
+        too-long = λ from ge. enabled ∙ rw (address-true address from, ← is-long body (λ e. omega (arith, ge, e)) ge);
+        client = λ from e. enabled ∙ rw (address-true address from, ← is-8 body e, ← judge-8 m secrets clock address body e);
+        other-length = λ from ge le ne. (let n8 : length body ≡ 8 → ⊥ = λ e. omega (arith, ge, e) in
+            enabled ∙ rw (address-true address from, ← is-between body n8 ge (omega arith), ← judge-other m secrets clock address body n8 ne));
+        other-version = λ from long ne. enabled ∙ rw (address-true address from, in-24 long, ← judge-version m secrets clock address body long ne);
+        other-hash = λ from long v ne. enabled ∙ rw (address-true address from, in-24 long, judge-matching m secrets clock address body long v, none-matches ne);
+        too-old = λ from long v w h n e.
+            enabled ∙ rw (address-true address from, in-24 long, judge-matching m secrets clock address body long v, good-match m secrets address body w h, e, lt-leb (3601 + n) 3600 (omega arith));
+        too-new = λ from long v w h n e.
+            enabled ∙ rw (address-true address from, in-24 long, judge-matching m secrets clock address body long v, good-match m secrets address body w h, e, lt-leb (300 + n) 299 (omega arith));
+      }
+
 pub good-exactly-when : GoodExactlyWhen
 good-exactly-when m mode on secrets clock address body a w = (good-when m secrets clock address body a w mode on, when-good m secrets clock address body a w mode on)
+
+pub every-other-answer : EveryOtherAnswer
+every-other-answer m secrets clock address body = others-hold m secrets clock address body

@@ -1,17 +1,19 @@
 -- Cases that pin the definitions beside the P cases: each reason, each refusal, how many secrets are held, and what is written and read back. The secret, the address and the cookie are those of P1; other hashes are what OpenSSL's SIPHASH gives. Assumes nothing.
-use Prim.Native.Nat.{ℕ, zero, suc, _+_}
+use Prim.Native.Nat.{ℕ, zero, suc, _+_, _≤_}
 use mathlib.Core.Path.{_≡_}
+use mathlib.Core.Bool.{false}
 use mathlib.Core.List.{List, [], _∷_, _++_, map}
 use lib.IntN.{pos}
-use lib.ListN.{take, replicate}
+use lib.ListN.{take, replicate, length}
 use Rattle.octets.specs.Numbers.{printed}
+use Rattle.siphash.specs.SipHash.{sipHash24Bytes}
 use Rattle.secret.specs.declared.Secret.{Secret}
 use Rattle.secret.specs.declared.Secrets.{Secrets}
 use Rattle.secret.specs.declared.Secrets.the-variants.{One, Two}
 use Rattle.secret.specs.Secret.{secretOf}
 use Rattle.cookie.specs.CookieOption.{carriedOption, freshOption, freshRefusal, keptOption, keptRefusal, outputAfter, writtenBody, writtenNumber}
 use Rattle.cookie.specs.PCases.{s1}
-use Rattle.cookie.specs.ServerCookie.{Answer, CookieMethod, sipHashMethod, judgement, checkingRefusal, answerOf}
+use Rattle.cookie.specs.ServerCookie.{Answer, CookieMethod, sipHashMethod, judgement, checkingRefusal, answerOf, isAddress}
 use Rattle.cookie.specs.ServerCookie.Answer.{refused, found}
 use Rattle.verdict.specs.Findings.Finding.{ignored, clientOnly, bad, good}
 use Rattle.verdict.specs.declared.Carried.the-variants.{Nothing}
@@ -20,7 +22,9 @@ use Rattle.verdict.specs.declared.Mode.the-variants.{Disabled, Enabled, Enforce
 use Rattle.cookie.specs.declared.Judged.the-variants as judged-as
 use Rattle.cookie.specs.declared.Written.the-variants as written-as
 use Rattle.cookie.specs.declared.Refusal.the-variants.{Output, Address, Body, NotKept}
-use Rattle.verdict.specs.declared.Verdict.the-variants.{ClientOnly}
+use Rattle.verdict.specs.declared.Verdict.{Verdict}
+use Rattle.verdict.specs.Findings.{finding}
+use Rattle.cookie.specs.declared.Refusal.{Refusal}
 use Rattle.verdict.specs.declared.Which.the-variants.{Generating, Other}
 
 -- P1's address
@@ -59,7 +63,7 @@ six = printed 16 0x20010db80220000159ded0f4876982b8
 abbrev pub sevens : ℕ → List ℕ
 sevens n = replicate n 7
 
--- n numbers that count up from one
+-- n numbers that count up from a first
 abbrev pub upTo : ℕ → ℕ → List ℕ
 upTo at zero = []
 upTo at (suc n) = at ∷ upTo (suc at) n
@@ -68,7 +72,7 @@ upTo at (suc n) = at ∷ upTo (suc at) n
 pub record ReasonsHold : Type 0 where
   -- nothing amiss
   pub good-here : to (One s1) second cookie ≡ found (good (pos 0) Generating)
-  -- method: the version or the length, with the hash right under that version
+  -- method: the version, with the hash right under it, or the length
   pub version-0 : to (One s1) second (printed 24 0x2464c4abcf10c957000000005cf79f1129b715bd0a88999c) ≡ found (bad 1)
   pub version-2 : to (One s1) second (printed 24 0x2464c4abcf10c957020000005cf79f116187d0e51e7646e7) ≡ found (bad 1)
   pub version-240 : to (One s1) second (printed 24 0x2464c4abcf10c957f00000005cf79f114da1e5af928a7ccf) ≡ found (bad 1)
@@ -78,7 +82,7 @@ pub record ReasonsHold : Type 0 where
   pub longer : to (One s1) second (cookie ++ (0 ∷ [])) ≡ found (bad 1)
   pub least : to (One s1) second (take 16 cookie) ≡ found (bad 1)
   pub most : to (One s1) second (cookie ++ take 16 cookie) ≡ found (bad 1)
-  -- hash: any byte that is hashed, any byte of the hash, the address, the secret
+  -- hash: a byte of each part that is hashed, the first and the last of the hash, the address, the secret
   pub client-differs : to (One s1) second (printed 24 0x2564c4abcf10c957010000005cf79f111f8130c3eee29480) ≡ found (bad 2)
   pub reserved-differs : to (One s1) second (printed 24 0x2464c4abcf10c957010000015cf79f111f8130c3eee29480) ≡ found (bad 2)
   pub time-differs : to (One s1) second (printed 24 0x2464c4abcf10c957010000005cf79f101f8130c3eee29480) ≡ found (bad 2)
@@ -177,19 +181,27 @@ pub record NamesHold : Type 0 where
   pub no-body : writtenNumber (written-as.Refused Body) ≡ 10
   pub not-kept : writtenNumber (written-as.Refused NotKept) ≡ 100
   pub done : writtenNumber written-as.Done ≡ 0
-  pub judged-address : answerOf (judged-as.Refused Address) ≡ refused 2
-  pub judged-body : answerOf (judged-as.Refused Body) ≡ refused 10
-  pub judged : answerOf (judged-as.Found ClientOnly) ≡ found clientOnly
+  pub judged-refused : (r : Refusal) → answerOf (judged-as.Refused r) ≡ refused (writtenNumber (written-as.Refused r))
+  pub judged : (v : Verdict) → answerOf (judged-as.Found v) ≡ found (finding v)
 
--- lengths, all of them to 48: address and body of a checking, address and output of a making, output of a kept option
+-- a number n times
 abbrev pub times : ℕ → ℕ → List ℕ
 times n x = replicate n x
 
+-- every length from 0 to 47 of a body and an address that are checked, of an address and an output of a making, of a body and an output of a kept option;
+-- and each refusal of a writer for every output, address and body; what the method's hash is
 pub record LengthsHold : Type 0 where
   pub bodies : map (λ (n : ℕ). checkingRefusal Enabled address (sevens n)) (upTo 0 48) ≡ times 8 10 ++ times 1 0 ++ times 7 10 ++ times 25 0 ++ times 7 10
   pub addresses : map (λ (n : ℕ). checkingRefusal Enabled (sevens n) cookie) (upTo 0 48) ≡ times 4 2 ++ times 1 0 ++ times 11 2 ++ times 1 0 ++ times 31 2
   pub making-addresses : map (λ (n : ℕ). freshRefusal (sevens 28) (sevens n)) (upTo 0 48) ≡ times 4 2 ++ times 1 0 ++ times 11 2 ++ times 1 0 ++ times 31 2
   pub outputs : map (λ (n : ℕ). freshRefusal (sevens n) address) (upTo 0 48) ≡ times 28 1 ++ times 20 0
   pub kept-outputs : map (λ (n : ℕ). keptRefusal (sevens n) cookie) (upTo 0 48) ≡ times 28 1 ++ times 20 0
+  pub kept-bodies : map (λ (n : ℕ). keptRefusal (sevens 28) (sevens n)) (upTo 0 48) ≡ times 24 100 ++ times 1 0 ++ times 23 100
+  pub fresh-no-address : (output address : List ℕ) → isAddress address ≡ false → 28 ≤ length output → freshRefusal output address ≡ 2
+  pub kept-other : (output body : List ℕ) → (length body ≡ 24 → ⊥) → 28 ≤ length output → keptRefusal output body ≡ 100
+  pub fresh-no-room : (output address : List ℕ) → length output ≤ 27 → freshRefusal output address ≡ 1
+  pub kept-no-room : (output body : List ℕ) → length output ≤ 27 → keptRefusal output body ≡ 1
+  pub the-hash : (s : Secret) (l : List ℕ) → sipHashMethod .hash s l ≡ sipHash24Bytes s l
+  pub no-option : (m : CookieMethod) (s : Secret) (c : ℕ) (a b : List ℕ) → carriedOption m s c a b Nothing ≡ []
   pub large : freshRefusal (sevens 512) address ≡ 0
   pub kept-large : keptRefusal (sevens 512) cookie ≡ 0

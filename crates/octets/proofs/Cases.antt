@@ -28,5 +28,7 @@ cases-hold =
       fits-past = refl;
       first-wins = refl;
       second-alone = refl;
+      first-row = λ n rows. refl;
+      later-row = λ n rows. refl;
       none-applies = refl;
     }

@@ -2,9 +2,10 @@
 -- (P1 of document 01), the word that of the key in the SipHash paper, appendix A. Assumes nothing.
 use mathlib.Core.Path.{_≡_}
 use mathlib.Core.Bool.{true, false}
-use mathlib.Core.List.{[], _∷_}
+use mathlib.Core.List.{List, [], _∷_}
+use Prim.Native.Nat.{ℕ}
 use Rattle.octets.specs.Numbers.{leNumber, leBytes, beNumber, beBytes, printed, be16At, be32At, be64At}
-use Rattle.octets.specs.Refusals.{_when_, first}
+use Rattle.octets.specs.Refusals.{Row, _when_, first}
 use Rattle.octets.specs.Runs.{sameRun, fits, written}
 
 -- the claim: each definition gives what is written beside it
@@ -29,4 +30,6 @@ pub record CasesHold : Type 0 where
   pub fits-past : fits (1 ∷ 2 ∷ 3 ∷ 4 ∷ []) 3 (8 ∷ 9 ∷ []) ≡ false
   pub first-wins : first (2 when true ∷ 10 when true ∷ []) ≡ 2
   pub second-alone : first (2 when false ∷ 10 when true ∷ []) ≡ 10
+  pub first-row : (n : ℕ) (rows : List Row) → first (n when true ∷ rows) ≡ n
+  pub later-row : (n : ℕ) (rows : List Row) → first (n when false ∷ rows) ≡ first rows
   pub none-applies : first (2 when false ∷ 10 when false ∷ []) ≡ 0

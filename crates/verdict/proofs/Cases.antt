@@ -1,14 +1,29 @@
 -- The claims of specs/Cases.antt, by computing the definitions. Assumes nothing.
-use mathlib.Core.Path.{refl}
-use Prim.Native.Nat.{suc}
+use mathlib.Core.Path.{_≡_, refl}
+use Prim.Native.Nat.{ℕ, suc, _+_}
 use native.Mathlib.Omega.{arith}
-use borrow.Author.Tests.{ne-eqb}
+use borrow.Author.Tests.{ne-eqb, lt-leb, le-leb}
 use Rattle.octets.specs.Numbers.{beBytes, printed}
 use Rattle.octets.specs.Runs.{sameRun}
+use Rattle.octets.proofs.RunLaws.{same-true}
+use mathlib.Core.Bool.{Bool, true, false, _&&_}
+use mathlib.Core.List.{List, [], _∷_}
+use lib.ListN.{take, drop}
 use Rattle.verdict.specs.Cases.{AgesHold, RepliesHold, NamesHold}
 use Rattle.verdict.specs.Findings.{isTimely, byTime}
 use Rattle.verdict.specs.ReplyTable.{reservedZero, isYoung}
 use Rattle.verdict.specs.Serial.{age}
+
+and-no : (x : Bool) → (x && false) ≡ false
+and-no true = refl
+and-no false = refl
+
+other-run : (x y : List ℕ) → (x ≡ y → ⊥) → sameRun x y ≡ false
+other-run x y ne = go (sameRun x y) refl
+  where
+    go : (t : Bool) → sameRun x y ≡ t → t ≡ false
+    go true e = absurd (ne (same-true x y e))
+    go false e = refl
 
 pub ages-hold : AgesHold
 unfolding age byTime isTimely
@@ -23,9 +38,9 @@ ages-hold =
       round-new = refl;
       p3 = refl;
       first-good = λ w. refl;
-      too-new = λ w. refl;
+      too-new = λ n w. rw (lt-leb (300 + n) 299 (omega arith));
       last-good = λ w. refl;
-      too-old = λ w. refl;
+      too-old = λ n w. rw (lt-leb (3601 + n) 3600 (omega arith));
     }
 
 pub replies-hold : RepliesHold
@@ -46,8 +61,10 @@ replies-hold =
       good-other = λ q a b. refl;
       kept-first = refl;
       kept-last = refl;
-      too-old = refl;
-      ahead = refl;
+      too-old = λ n b. rw (le-leb 0 (1801 + n) (omega arith), lt-leb (1801 + n) 1800 (omega arith), and-no (sameRun (take 3 (drop 9 b)) (0 ∷ 0 ∷ 0 ∷ [])));
+      ahead = λ n b. rw (and-no (sameRun (take 3 (drop 9 b)) (0 ∷ 0 ∷ 0 ∷ [])));
+      young-kept = λ n b le e. rw (e, le-leb n 1800 le, le-leb 0 n (omega arith));
+      reserved-set = λ a b ne. rw (other-run (take 3 (drop 9 b)) (0 ∷ 0 ∷ 0 ∷ []) ne);
       reserved-one = refl;
       reserved-two = refl;
       reserved-three = refl;
@@ -63,9 +80,8 @@ names-hold =
       of-ignored = refl;
       of-absent = refl;
       client-only = refl;
-      by-generating = refl;
-      by-other = refl;
-      served = refl;
-      bad-cookie = refl;
-      truncated = refl;
+      of-good = λ a w. refl;
+      served = λ o. refl;
+      bad-cookie = λ o. refl;
+      truncated = λ o. refl;
     }

@@ -1,10 +1,10 @@
 -- Cases that pin the definitions: ages, each cell of the reply table, and what each case of the enums says. The cookie is P1's; the hashes of those with
 -- reserved bytes set are what OpenSSL's SIPHASH gives. Assumes nothing.
-use Prim.Native.Nat.{ℕ, suc, _+_, _^_}
+use Prim.Native.Nat.{ℕ, suc, _+_, _^_, _≤_}
 use mathlib.Core.Path.{_≡_}
-use mathlib.Core.List.{List}
+use mathlib.Core.List.{List, [], _∷_}
 use lib.IntN.{ℤ, pos, negsuc}
-use lib.ListN.{take}
+use lib.ListN.{take, drop}
 use Rattle.octets.specs.Numbers.{printed}
 use Rattle.verdict.specs.Findings.{Finding, finding, byTime}
 use Rattle.verdict.specs.Findings.Finding.{ignored, absent, clientOnly, bad, good}
@@ -12,6 +12,7 @@ use Rattle.verdict.specs.ReplyTable.{_carrying_, owedOf, replyOwed}
 use Rattle.verdict.specs.ReplyTable.Sent.{serve, truncate, error}
 use Rattle.verdict.specs.Serial.{age}
 use Rattle.verdict.specs.declared.Action.the-variants.{Serve, BadCookie, Truncate}
+use Rattle.verdict.specs.declared.Carried.{Carried}
 use Rattle.verdict.specs.declared.Carried.the-variants.{Nothing, Fresh, Kept}
 use Rattle.verdict.specs.declared.Mode.the-variants.{Disabled, Enabled, Enforced}
 use Rattle.verdict.specs.declared.Reason.the-variants.{Method, Hash, Time}
@@ -36,9 +37,9 @@ pub record AgesHold : Type 0 where
   pub p3 : age 0x5cf7a9ac 0x5cf78f71 ≡ pos 6715
   -- the bounds of a good one, for either secret
   pub first-good : (w : Which) → byTime (negsuc 299) w ≡ good (negsuc 299) w
-  pub too-new : (w : Which) → byTime (negsuc 300) w ≡ bad 3
+  pub too-new : (n : ℕ) (w : Which) → byTime (negsuc (300 + n)) w ≡ bad 3
   pub last-good : (w : Which) → byTime (pos 3600) w ≡ good (pos 3600) w
-  pub too-old : (w : Which) → byTime (pos 3601) w ≡ bad 3
+  pub too-old : (n : ℕ) (w : Which) → byTime (pos (3601 + n)) w ≡ bad 3
 
 -- each cell of the reply table, for every QDCOUNT, reason, age and body
 pub record RepliesHold : Type 0 where
@@ -57,8 +58,10 @@ pub record RepliesHold : Type 0 where
   pub good-other : (q : ℕ) (a : ℤ) (b : List ℕ) → replyOwed Enabled q (good a Other) b ≡ serve carrying Fresh
   pub kept-first : replyOwed Enabled 1 (good (pos 0) Generating) cookie ≡ serve carrying Kept
   pub kept-last : replyOwed Enabled 1 (good (pos 1800) Generating) cookie ≡ serve carrying Kept
-  pub too-old : replyOwed Enabled 1 (good (pos 1801) Generating) cookie ≡ serve carrying Fresh
-  pub ahead : replyOwed Enabled 1 (good (negsuc 0) Generating) cookie ≡ serve carrying Fresh
+  pub too-old : (n : ℕ) (b : List ℕ) → replyOwed Enabled 1 (good (pos (1801 + n)) Generating) b ≡ serve carrying Fresh
+  pub ahead : (n : ℕ) (b : List ℕ) → replyOwed Enabled 1 (good (negsuc n) Generating) b ≡ serve carrying Fresh
+  pub young-kept : (n : ℕ) (b : List ℕ) → n ≤ 1800 → take 3 (drop 9 b) ≡ 0 ∷ 0 ∷ 0 ∷ [] → replyOwed Enabled 1 (good (pos n) Generating) b ≡ serve carrying Kept
+  pub reserved-set : (a : ℤ) (b : List ℕ) → (take 3 (drop 9 b) ≡ 0 ∷ 0 ∷ 0 ∷ [] → ⊥) → replyOwed Enabled 1 (good a Generating) b ≡ serve carrying Fresh
   pub reserved-one : replyOwed Enabled 1 (good (pos 0) Generating) (printed 24 0x2464c4abcf10c957010100005cf79f116d707c989046e3c9) ≡ serve carrying Fresh
   pub reserved-two : replyOwed Enabled 1 (good (pos 0) Generating) (printed 24 0x2464c4abcf10c957010001005cf79f114f8c59f70d755fd1) ≡ serve carrying Fresh
   pub reserved-three : replyOwed Enabled 1 (good (pos 0) Generating) (printed 24 0x2464c4abcf10c957010000015cf79f11737c77e34ce6b548) ≡ serve carrying Fresh
@@ -72,8 +75,7 @@ pub record NamesHold : Type 0 where
   pub of-ignored : finding Ignored ≡ ignored
   pub of-absent : finding Absent ≡ absent
   pub client-only : finding ClientOnly ≡ clientOnly
-  pub by-generating : finding (Good (pos 5) Generating) ≡ good (pos 5) Generating
-  pub by-other : finding (Good (negsuc 4) Other) ≡ good (negsuc 4) Other
-  pub served : owedOf (record { action = Serve; option = Fresh }) ≡ serve carrying Fresh
-  pub bad-cookie : owedOf (record { action = BadCookie; option = Kept }) ≡ error 23 carrying Kept
-  pub truncated : owedOf (record { action = Truncate; option = Nothing }) ≡ truncate carrying Nothing
+  pub of-good : (a : ℤ) (w : Which) → finding (Good a w) ≡ good a w
+  pub served : (o : Carried) → owedOf (record { action = Serve; option = o }) ≡ serve carrying o
+  pub bad-cookie : (o : Carried) → owedOf (record { action = BadCookie; option = o }) ≡ error 23 carrying o
+  pub truncated : (o : Carried) → owedOf (record { action = Truncate; option = o }) ≡ truncate carrying o
