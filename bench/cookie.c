@@ -1,10 +1,7 @@
 // The proved server cookies, compiled, against plain C and, where it is there, libknot: first that they agree, then their times,
 // measured in turns.
 #include "cookie.h"
-#include <stdio.h>
-#include <stdlib.h>
-#include <string.h>
-#include <time.h>
+#include "measure.h"
 #ifdef LIBKNOT
 #include <libknot/cookies.h>
 #include <libknot/errcode.h>
@@ -16,18 +13,6 @@ uint64_t plain_siphash24(const uint8_t *key, const uint8_t *message, size_t leng
 enum { ROUNDS = 2001, CALLS = 2000, COMPARED = 400000, COOKIES = 64 };
 
 static uint64_t sum;
-
-static double seconds(void) {
-    struct timespec t;
-    clock_gettime(CLOCK_MONOTONIC, &t);
-    return t.tv_sec + t.tv_nsec * 1e-9;
-}
-
-static uint64_t next(void) { // xorshift64*: the same inputs in every run
-    static uint64_t x = 0x9e3779b97f4a7c15;
-    x ^= x >> 12; x ^= x << 25; x ^= x >> 27;
-    return x * 0x2545f4914f6cdd1d;
-}
 
 static uint32_t below(uint32_t n) { return (next() >> 32) * n >> 32; }
 
@@ -232,11 +217,6 @@ static double once(enum Row row, enum Side side) {
     memcpy(&word, output + 20, 8);
     sum += word;
     return took;
-}
-
-static int ascending(const void *a, const void *b) {
-    double x = *(const double *)a, y = *(const double *)b;
-    return (x > y) - (x < y);
 }
 
 static double median(double *x) {

@@ -1,9 +1,5 @@
 // The proved SipHash-2-4, compiled, against plain C: first that they agree, then their times, measured in turns.
-#include <stdint.h>
-#include <stdio.h>
-#include <stdlib.h>
-#include <string.h>
-#include <time.h>
+#include "measure.h"
 
 typedef uint64_t Hash(const uint8_t *key, const uint8_t *message, size_t length);
 Hash plain_siphash24, proved_siphash24;
@@ -12,18 +8,6 @@ enum { ROUNDS = 2001, LONGEST = 65535, COMPARED = 300000 };
 
 static uint8_t key[16], message[LONGEST];
 static uint64_t sum;
-
-static double seconds(void) {
-    struct timespec t;
-    clock_gettime(CLOCK_MONOTONIC, &t);
-    return t.tv_sec + t.tv_nsec * 1e-9;
-}
-
-static uint64_t next(void) { // xorshift64*: the same inputs in every run
-    static uint64_t x = 0x9e3779b97f4a7c15;
-    x ^= x >> 12; x ^= x << 25; x ^= x >> 27;
-    return x * 0x2545f4914f6cdd1d;
-}
 
 static void fill(uint8_t *p, size_t n) {
     for (size_t i = 0; i < n; i++) p[i] = next() >> 56;
@@ -50,11 +34,6 @@ static double once(Hash *hash, size_t length, long calls) {
         sum ^= hash(key, message, length);
     }
     return (seconds() - began) / calls * 1e9;
-}
-
-static int ascending(const void *a, const void *b) {
-    double x = *(const double *)a, y = *(const double *)b;
-    return (x > y) - (x < y);
 }
 
 static void measure(size_t length) {

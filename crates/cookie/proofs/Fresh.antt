@@ -1,6 +1,6 @@
 -- The claims `WrittenWhole`, `SipHashEight` and `FreshIsGood` of specs/Claims.antt. Assumes nothing.
 use mathlib.Core.Path.{_≡_, refl, sym, ap, _∙_}
-use mathlib.Core.Bool.{Bool, true, false, _&&_, true≢false}
+use mathlib.Core.Bool.{Bool, true, false, true≢false}
 use mathlib.Core.List.{List, _++_, append-assoc}
 use Prim.Native.Nat.{ℕ, suc, _+_, _-_, _%_, _^_, _≤_, _<_}
 use native.Mathlib.Omega.{arith}
@@ -13,7 +13,8 @@ use lib.Signed.{_≤ℤ_}
 use Rattle.octets.specs.Numbers.{beNumber, beBytes, be32At}
 use Rattle.octets.proofs.NumberLaws.{length-leBytes, length-beBytes, be-back}
 use Rattle.octets.proofs.ReadLaws.{be32-at}
-use Rattle.octets.proofs.RunLaws.{same-refl, same-true}
+use Rattle.octets.proofs.RunLaws.{same-refl, same-true, same-other}
+use Rattle.verdict.proofs.ReplyLaws.{and-false}
 use Rattle.octets.specs.Runs.{sameRun}
 use Rattle.secret.specs.declared.Secret.{Secret}
 use Rattle.secret.specs.declared.Secrets.{Secrets}
@@ -100,24 +101,13 @@ module _ (m : CookieMethod) (eight : EightBytes m) (secret : Secret) (clock : �
   unfolding freshOption
   fresh-holds output room from = rw (fresh-taken output address room from) (option-holds (client ++ freshServer m secret clock address client) output length-body room)
 
-and-no : (x : Bool) → (x && false) ≡ false
-and-no true = refl
-and-no false = refl
-
-other-run : (x y : List ℕ) → (x ≡ y → ⊥) → sameRun x y ≡ false
-other-run x y ne = go (sameRun x y) refl
-  where
-    go : (t : Bool) → sameRun x y ≡ t → t ≡ false
-    go true e = absurd (ne (same-true x y e))
-    go false e = refl
-
 pub written-whole : WrittenWhole
 unfolding keptOption freshServer freshFront writtenBody
 written-whole =
     record {
       fresh-parts = λ m secret clock address client. refl;
       back-short = λ s le. rw (lt-leb 28 (length s) (omega arith));
-      back-other = λ s ne. rw (other-run (take 4 s) optionHead ne, and-no (leb 28 (length s)));
+      back-other = λ s ne. rw (same-other (take 4 s) optionHead ne, and-false (leb 28 (length s)));
       fresh = λ m eight secret clock address client output room from long. fresh-holds m eight secret clock address client long output room from;
       kept = λ body output room long. rw (kept-taken body output room long) (option-holds body output long room);
     }

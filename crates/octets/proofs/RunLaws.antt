@@ -30,6 +30,14 @@ same-true (x ∷ xs) (y ∷ ys) h = go (eqb x y) refl (same-true xs ys) h
     go true e rest k = ap₂ (λ (z : ℕ) (zs : List ℕ). z ∷ zs) (eqb-true x y e) (rest k)
     go false e rest k = let z : _≡_ {A = Bool} true false = sym k in cc
 
+-- what is not equal is not the same
+pub same-other : (xs ys : List ℕ) → (xs ≡ ys → ⊥) → sameRun xs ys ≡ false
+same-other xs ys other = go (sameRun xs ys) refl
+  where
+    go : (t : Bool) → sameRun xs ys ≡ t → t ≡ false
+    go true e = absurd (other (same-true xs ys e))
+    go false e = refl
+
 -- ---- a run written into a buffer
 
 module _ (buffer : List ℕ) (at : ℕ) (run : List ℕ) where
@@ -104,11 +112,7 @@ written-next buffer at x y within =
 
 -- runs of other lengths differ
 pub same-lengths : (xs ys : List ℕ) → (length xs ≡ length ys → ⊥) → false ≡ sameRun xs ys
-same-lengths xs ys other = go (sameRun xs ys) refl
-  where
-    go : (t : Bool) → sameRun xs ys ≡ t → false ≡ t
-    go false e = refl
-    go true e = absurd (other (ap length (same-true xs ys e)))
+same-lengths xs ys other = sym (same-other xs ys (λ e. other (ap length e)))
 
 -- two runs of one length, compared up to i: the rest from there says what the whole says
 module _ (xs ys : List ℕ) (long : length xs ≡ length ys) (i : ℕ) (inv : sameRun xs ys ≡ sameRun (drop i xs) (drop i ys)) where

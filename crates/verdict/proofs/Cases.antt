@@ -1,29 +1,18 @@
 -- The claims of specs/Cases.antt, by computing the definitions. Assumes nothing.
-use mathlib.Core.Path.{_≡_, refl}
-use Prim.Native.Nat.{ℕ, suc, _+_}
+use mathlib.Core.Path.{refl}
+use Prim.Native.Nat.{suc, _+_}
 use native.Mathlib.Omega.{arith}
 use borrow.Author.Tests.{ne-eqb, lt-leb, le-leb}
 use Rattle.octets.specs.Numbers.{beBytes, printed}
 use Rattle.octets.specs.Runs.{sameRun}
-use Rattle.octets.proofs.RunLaws.{same-true}
-use mathlib.Core.Bool.{Bool, true, false, _&&_}
-use mathlib.Core.List.{List, [], _∷_}
+use Rattle.octets.proofs.RunLaws.{same-other}
+use Rattle.verdict.proofs.ReplyLaws.{and-false}
+use mathlib.Core.List.{[], _∷_}
 use lib.ListN.{take, drop}
 use Rattle.verdict.specs.Cases.{AgesHold, RepliesHold, NamesHold}
 use Rattle.verdict.specs.Findings.{isTimely, byTime}
 use Rattle.verdict.specs.ReplyTable.{reservedZero, isYoung}
 use Rattle.verdict.specs.Serial.{age}
-
-and-no : (x : Bool) → (x && false) ≡ false
-and-no true = refl
-and-no false = refl
-
-other-run : (x y : List ℕ) → (x ≡ y → ⊥) → sameRun x y ≡ false
-other-run x y ne = go (sameRun x y) refl
-  where
-    go : (t : Bool) → sameRun x y ≡ t → t ≡ false
-    go true e = absurd (ne (same-true x y e))
-    go false e = refl
 
 pub ages-hold : AgesHold
 unfolding age byTime isTimely
@@ -61,10 +50,10 @@ replies-hold =
       good-other = λ q a b. refl;
       kept-first = refl;
       kept-last = refl;
-      too-old = λ n b. rw (le-leb 0 (1801 + n) (omega arith), lt-leb (1801 + n) 1800 (omega arith), and-no (sameRun (take 3 (drop 9 b)) (0 ∷ 0 ∷ 0 ∷ [])));
-      ahead = λ n b. rw (and-no (sameRun (take 3 (drop 9 b)) (0 ∷ 0 ∷ 0 ∷ [])));
+      too-old = λ n b. rw (le-leb 0 (1801 + n) (omega arith), lt-leb (1801 + n) 1800 (omega arith), and-false (sameRun (take 3 (drop 9 b)) (0 ∷ 0 ∷ 0 ∷ [])));
+      ahead = λ n b. rw (and-false (sameRun (take 3 (drop 9 b)) (0 ∷ 0 ∷ 0 ∷ [])));
       young-kept = λ n b le e. rw (e, le-leb n 1800 le, le-leb 0 n (omega arith));
-      reserved-set = λ a b ne. rw (other-run (take 3 (drop 9 b)) (0 ∷ 0 ∷ 0 ∷ []) ne);
+      reserved-set = λ a b ne. rw (same-other (take 3 (drop 9 b)) (0 ∷ 0 ∷ 0 ∷ []) ne);
       reserved-one = refl;
       reserved-two = refl;
       reserved-three = refl;

@@ -23,7 +23,7 @@ use Rattle.verdict.specs.declared.Verdict.the-variants.{Good}
 use Rattle.verdict.specs.declared.Which.{Which}
 use Rattle.verdict.specs.declared.Which.the-variants.{Generating}
 
-and-false : (x : Bool) → (x && false) ≡ false
+pub and-false : (x : Bool) → (x && false) ≡ false
 and-false true = refl
 and-false false = refl
 

@@ -1,0 +1,23 @@
+// What both measurements need: a clock, and numbers that are the same in every run.
+#include <stdint.h>
+#include <stdio.h>
+#include <stdlib.h>
+#include <string.h>
+#include <time.h>
+
+static double seconds(void) {
+    struct timespec t;
+    clock_gettime(CLOCK_MONOTONIC, &t);
+    return t.tv_sec + t.tv_nsec * 1e-9;
+}
+
+static uint64_t next(void) { // xorshift64*
+    static uint64_t x = 0x9e3779b97f4a7c15;
+    x ^= x >> 12; x ^= x << 25; x ^= x >> 27;
+    return x * 0x2545f4914f6cdd1d;
+}
+
+static int ascending(const void *a, const void *b) {
+    double x = *(const double *)a, y = *(const double *)b;
+    return (x > y) - (x < y);
+}
