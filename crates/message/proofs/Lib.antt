@@ -1,0 +1,4 @@
+pub mod MessageLaws
+pub mod NameLaws
+pub mod RecordLaws
+pub mod ScanLaws

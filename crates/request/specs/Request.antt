@@ -1,0 +1,136 @@
+-- Reading a request: document 01, "Reading a request" and "Answer numbers for a request", checks 3 to 10. Each check is a predicate on the whole message, and
+-- `checks` is their order. A predicate says something of every list of bytes, also where an earlier check refuses it. Assumes nothing.
+use Prim.Native.Nat.{ℕ, zero, suc, _+_, _-_}
+use mathlib.Core.Bool.{Bool, true, false, not, _||_}
+use mathlib.Core.List.{List, [], _∷_, _++_}
+use mathlib.Core.Option.{Option, none, some}
+use lib.Dec.{eqb, leb, ltb}
+use lib.ListN.{length, take, drop, getD}
+use Rattle.octets.specs.Refusals.{Row, _when_, first}
+use Rattle.edns.specs.Options.{options, isPast, firstCookie, isCookieLength} 
+use Rattle.edns.specs.Options as edns
+use Rattle.edns.specs.declared.EdnsOption.{EdnsOption}
+use Rattle.message.specs.Message.{qdcount, sections, malformed, opts, wrongOpt}
+use Rattle.message.specs.Message as message
+use Rattle.message.specs.declared.Record.{Record}
+
+-- ---- what a message holds
+
+-- its OPT records. Where check 7 does not apply there is at most one
+abbrev pub optsIn : List ℕ → List Record
+optsIn s = opts (message.listed (sections s))
+
+-- a record's data: a part of the message
+abbrev pub dataOf : List ℕ → Record → List ℕ
+dataOf s r = take (r .end - r .start) (drop (r .start) s)
+
+abbrev pub optData : List ℕ → List Record → List ℕ
+optData s [] = []
+optData s (r ∷ rs) = dataOf s r
+
+-- the options of its OPT
+abbrev pub optionsOf : List ℕ → Option (List EdnsOption)
+optionsOf s = options (optData s (optsIn s))
+
+-- its first COOKIE option
+abbrev pub cookieOf : List ℕ → Option EdnsOption
+cookieOf s = firstCookie (edns.listed (optionsOf s))
+
+-- ---- the checks
+
+-- 3: message under 12 or over 65,535 bytes
+abbrev pub wrongSize : List ℕ → Bool
+wrongSize s = ltb (length s) 12 || ltb 65535 (length s)
+
+-- 4: QR is 1, the top bit of byte 2
+abbrev pub isResponse : List ℕ → Bool
+isResponse s = leb 128 (getD s 2 0)
+
+-- 5: QDCOUNT above 1
+abbrev pub manyQuestions : List ℕ → Bool
+manyQuestions s = ltb 1 (qdcount s)
+
+-- 6 and 7, `malformed` and `wrongOpt`, stand in message/specs/Message.antt
+
+abbrev pub versionOf : List Record → ℕ
+versionOf [] = 0
+versionOf (r ∷ rs) = r .version
+
+-- 8: EDNS version not 0
+abbrev pub wrongVersion : List ℕ → Bool
+wrongVersion s = not (eqb (versionOf (optsIn s)) 0)
+
+-- 9: an option past the OPT data
+abbrev pub optionPast : List ℕ → Bool
+optionPast s = isPast (optionsOf s)
+
+abbrev pub isIllegal : Option EdnsOption → Bool
+isIllegal none = false
+isIllegal (some o) = not (isCookieLength (o .end - o .start))
+
+-- 10: first COOKIE body of an illegal length
+abbrev pub wrongCookie : List ℕ → Bool
+wrongCookie s = isIllegal (cookieOf s)
+
+-- ---- their order
+
+-- those that apply in mode Disabled too
+abbrev pub headChecks : List ℕ → List Row
+headChecks s =
+    3 when wrongSize s
+    ∷ 4 when isResponse s
+    ∷ []
+
+-- and those that do not
+abbrev pub restChecks : List ℕ → List Row
+restChecks s =
+    5 when manyQuestions s
+    ∷ 6 when malformed s
+    ∷ 7 when wrongOpt s
+    ∷ 8 when wrongVersion s
+    ∷ 9 when optionPast s
+    ∷ 10 when wrongCookie s
+    ∷ []
+
+abbrev pub checks : List ℕ → List Row
+checks s = headChecks s ++ restChecks s
+
+-- ---- the answer
+
+-- a refusal by its number; or QDCOUNT, and where the body of the first COOKIE option lies, if there is one
+pub data Answer : Type 0 where
+  refused : ℕ → Answer
+  noCookie : ℕ → Answer
+  cookie : ℕ → ℕ → ℕ → Answer
+
+-- places in the data are places in the message from the data's start on
+abbrev pub startOf : List Record → ℕ
+startOf [] = 0
+startOf (r ∷ rs) = r .start
+
+abbrev pub found : ℕ → ℕ → Option EdnsOption → Answer
+found q start none = noCookie q
+found q start (some o) = cookie q (start + o .start) (start + o .end)
+
+-- what stands in a message that no check refuses
+abbrev pub foundIn : List ℕ → Answer
+foundIn s = found (qdcount s) (startOf (optsIn s)) (cookieOf s)
+
+abbrev pub answer : ℕ → Answer → Answer
+answer zero a = a
+answer (suc n) a = refused (suc n)
+
+-- the first check that applies, and otherwise what is found
+unfoldable pub request : List ℕ → Answer
+request s = answer (first (checks s)) (foundIn s)
+
+-- ---- the finder
+
+abbrev pub bodyAt : List ℕ → Answer → List ℕ
+bodyAt s (refused n) = []
+bodyAt s (noCookie q) = []
+bodyAt s (cookie q start end) = take (end - start) (drop start s)
+
+-- the body of the first COOKIE option; empty if there is none or a check refuses
+unfoldable pub cookieBody : List ℕ → List ℕ
+cookieBody s = bodyAt s (request s)

@@ -1,0 +1,36 @@
+// A request read (RFC 1035, RFC 6891, RFC 7873): document 01's checks 3 to 10 in their order, and the body of the first COOKIE option.
+// Takes every message, and copies nothing of it.
+mod reading;
+
+use edns::Cookie;
+pub use reading::cookie_body;
+pub use reading::read;
+
+// Why a request is refused: document 01's refusals 3 to 10.
+pub enum Refusal {
+    // Under 12 or over 65,535 bytes.
+    Size,
+    // QR is 1.
+    Response,
+    // QDCOUNT above 1.
+    Questions,
+    // A malformed name, a part past the end, bytes left over.
+    Malformed,
+    // An OPT misplaced, its owner not the root, or a second OPT.
+    WrongOpt,
+    // An EDNS version other than 0.
+    Version,
+    // An option past the OPT data.
+    OptionPast,
+    // A first COOKIE body of an illegal length.
+    CookieLength,
+}
+
+// What reading a request gives. QDCOUNT is told because the reply depends on it.
+pub enum Reading {
+    Refused(Refusal),
+    // No OPT, or no COOKIE option in it.
+    NoCookie { qdcount: u16 },
+    // Where the body of the first COOKIE option lies in the message.
+    CookieAt { qdcount: u16, cookie: Cookie },
+}
