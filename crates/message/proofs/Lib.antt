@@ -2,3 +2,4 @@ pub mod MessageLaws
 pub mod NameLaws
 pub mod RecordLaws
 pub mod ScanLaws
+pub mod Within

@@ -9,7 +9,7 @@ use Rattle.edns.specs.Options.{cookieIn, isCookieLength}
 use Rattle.edns.specs.Options as edns
 use Rattle.message.specs.Message as message
 use Rattle.message.specs.declared.Record.{Record}
-use Rattle.request.specs.Request.{Answer, refused, noCookie, cookie, answer, dataOf}
+use Rattle.request.specs.Request.{Answer, refused, noCookie, cookie, answer, dataOf, restChecks, foundIn}
 
 -- check 10
 abbrev pub afterCookie : ℕ → ℕ → ℕ → ℕ → Answer
@@ -30,3 +30,7 @@ abbrev pub afterOutline : List ℕ → ℕ → message.Outlined → Answer
 afterOutline s q (message.refused n) = refused n
 afterOutline s q message.noOpt = noCookie q
 afterOutline s q (message.theOpt r) = afterOpt s q r
+
+-- checks 5 to 10 on a message
+unfoldable pub afterHead : List ℕ → Answer
+afterHead s = answer (first (restChecks s)) (foundIn s)

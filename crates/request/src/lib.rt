@@ -1,10 +1,10 @@
 // A request read (RFC 1035, RFC 6891, RFC 7873): document 01's checks 3 to 10 in their order, and the body of the first COOKIE option.
 // Takes every message, and copies nothing of it.
-mod reading;
+mod checks;
 
+pub use checks::cookie_body;
+pub use checks::read;
 use edns::Cookie;
-pub use reading::cookie_body;
-pub use reading::read;
 
 // Why a request is refused: document 01's refusals 3 to 10.
 pub enum Refusal {

@@ -8,11 +8,9 @@ use message::Record;
 ghost use mathlib.Core.Path.{_≡_};
 ghost use Prim.Native.Nat.{_+_, _≤_};
 ghost use lib.ListN.{length};
-ghost use Rattle.octets.specs.Refusals.{first};
-ghost use Rattle.message.specs.Message.{qdcount};
 ghost use Rattle.request.specs.Answers.{answerOf};
-ghost use Rattle.request.specs.Request.{restChecks, answer, foundIn, request, cookieBody};
-ghost use Rattle.request.specs.Rest.{afterCookie, afterOpt};
+ghost use Rattle.request.specs.Request.{request, cookieBody};
+ghost use Rattle.request.specs.Rest.{afterCookie, afterOpt, afterHead};
 
 // Check 10, and where the first COOKIE body lies in the message.
 fn read_cookie(qdcount: u16, base: usize, cookie: Cookie) -> Reading
@@ -33,7 +31,7 @@ fn read_cookie(qdcount: u16, base: usize, cookie: Cookie) -> Reading
 
 // Checks 8 to 10.
 fn read_opt(message: &[u8], qdcount: u16, opt: Record) -> Reading
-    requires { ⌜ (opt .start ≤ opt .end) × (opt .end ≤ length (now message)) ⌝ }
+    requires { ⌜ (opt .start ≤ opt .end) × (opt .end ≤ length (now message)) × (length (now message) ≤ 65535) ⌝ }
     ensures { λ r. ⌜ answerOf r ≡ afterOpt (now (message .entry)) qdcount opt ⌝ }
 {
     if opt.version != 0 {
@@ -50,8 +48,8 @@ fn read_opt(message: &[u8], qdcount: u16, opt: Record) -> Reading
 
 // Checks 5 to 10.
 fn read_rest(message: &[u8]) -> Reading
-    requires { ⌜ 12 ≤ length (now message) ⌝ }
-    ensures { λ r. ⌜ answerOf r ≡ answer (first (restChecks (now (message .entry)))) (foundIn (now (message .entry))) ⌝ }
+    requires { ⌜ (12 ≤ length (now message)) × (length (now message) ≤ 65535) ⌝ }
+    ensures { λ r. ⌜ answerOf r ≡ afterHead (now (message .entry)) ⌝ }
 {
     let qdcount = octets::be16(message[4], message[5]);
     if 1 < qdcount {

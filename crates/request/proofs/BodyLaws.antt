@@ -1,0 +1,75 @@
+-- The COOKIE body that is found lies within the message. Assumes nothing.
+use Prim.Native.Nat.{ℕ, zero, suc, _+_, _-_, _≤_}
+use mathlib.Core.Path.{_≡_, refl, sym, ap, subst, _∙_}
+use mathlib.Core.List.{List, [], _∷_}
+use mathlib.Core.Option.{Option, none, some}
+use native.Mathlib.Omega.{arith}
+use lib.ListN.{length, take, drop, length-drop}
+use lib.Seq.{length-take-le}
+use Rattle.octets.specs.Refusals.{first}
+use Rattle.edns.proofs.Within.{SomeInside, cookie-within}
+use Rattle.edns.specs.Options.{options, optionsFrom, optionsIn, firstCookie}
+use Rattle.edns.specs.Options as edns
+use Rattle.edns.specs.declared.Cookie.{Cookie}
+use Rattle.edns.specs.declared.EdnsOption.{EdnsOption}
+use Rattle.message.proofs.Within.{AllInside, opts-within}
+use Rattle.message.specs.declared.Record.{Record}
+use Rattle.message.specs.Message.{qdcount}
+use Rattle.request.specs.Answers.{answerOf}
+use Rattle.request.specs.Request.{optsIn, dataOf, optData, Answer, refused, noCookie, cookie, startOf, found, foundIn, answer, checks, request, bodyAt, cookieBody}
+use Rattle.request.specs.declared.Reading.{Reading}
+use Rattle.request.specs.declared.Reading.the-variants as reading-as
+use Rattle.request.specs.declared.Refusal.{Refusal}
+
+abbrev pub AnswerInside : ℕ → Answer → Type 0
+AnswerInside n (refused k) = Unit {0}
+AnswerInside n (noCookie q) = Unit {0}
+AnswerInside n (cookie q start end) = (start ≤ end) × (end ≤ n)
+
+-- from the data to the message
+found-inside : (s : List ℕ) (r : Record) (q : ℕ) (c : Option EdnsOption) → r .start ≤ r .end → r .end ≤ length s → SomeInside (length (dataOf s r)) c
+    → AnswerInside (length s) (found q (r .start) c)
+found-inside s r q none ordered within i = tt
+found-inside s r q (some o) ordered within i =
+    let long : length (dataOf s r) ≡ r .end - r .start = length-take-le (r .end - r .start) (drop (r .start) s) (omega (arith, length-drop (r .start) s)) in
+    (omega (arith, i .ordered), omega (arith, i .within, long))
+
+opts-found : (s : List ℕ) (q : ℕ) (os : List Record) → AllInside (length s) os
+    → AnswerInside (length s) (found q (startOf os) (firstCookie (edns.listed (options (optData s os)))))
+unfolding optionsFrom optionsIn firstCookie
+opts-found s q [] is = tt
+opts-found s q (r ∷ rs) is = found-inside s r q (firstCookie (edns.listed (options (dataOf s r)))) (is .0 .ordered) (is .0 .within) (cookie-within (dataOf s r))
+
+pub request-inside : (s : List ℕ) → AnswerInside (length s) (request s)
+unfolding request
+request-inside s = pick (first (checks s)) (foundIn s) (opts-found s (qdcount s) (optsIn s) (opts-within s))
+  where
+    pick : (k : ℕ) (a : Answer) → AnswerInside (length s) a → AnswerInside (length s) (answer k a)
+    pick zero a i = i
+    pick (suc k) a i = tt
+
+-- ---- the finder
+
+module _ (s : List ℕ) (x : Reading) (read : answerOf x ≡ request s) where
+  body-is : (y : Reading) → x ≡ y → bodyAt s (answerOf y) ≡ cookieBody s
+  unfolding cookieBody
+  body-is y k = ap (bodyAt s) (sym (ap answerOf k) ∙ read)
+
+  pub body-refused : (f : Refusal) → x ≡ reading-as.Refused f → [] ≡ cookieBody s
+  body-refused f k = body-is (reading-as.Refused f) k
+
+  pub body-none : (q : ℕ) → x ≡ reading-as.NoCookie q → [] ≡ cookieBody s
+  body-none q k = body-is (reading-as.NoCookie q) k
+
+  module _ (q : ℕ) (c : Cookie) (k : x ≡ reading-as.CookieAt q c) where
+    pub body-at : take (c .end - c .start) (drop (c .start) s) ≡ cookieBody s
+    body-at = body-is (reading-as.CookieAt q c) k
+
+    inside : (c .start ≤ c .end) × (c .end ≤ length s)
+    inside = subst (AnswerInside (length s)) (sym read ∙ ap answerOf k) (request-inside s)
+
+    pub body-ordered : c .start ≤ c .end
+    body-ordered = inside .0
+
+    pub body-within : c .end ≤ length s
+    body-within = inside .1
