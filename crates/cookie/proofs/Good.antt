@@ -14,11 +14,12 @@ use lib.Signed.{leZ, _≤ℤ_}
 use Rattle.octets.specs.Numbers.{be32At}
 use Rattle.octets.specs.Runs.{sameRun}
 use Rattle.octets.proofs.RunLaws.{same-refl, same-true}
+use Rattle.edns.proofs.LengthLaws.{is-8, is-short, is-long, is-between}
 use Rattle.secret.specs.declared.Secret.{Secret}
 use Rattle.secret.specs.declared.Secrets.{Secrets}
 use Rattle.secret.specs.Secrets.{generatingOf, otherOf}
 use Rattle.cookie.proofs.BodyLaws.{judge-8, judge-other, judge-24, judge-version, judge-matching}
-use Rattle.cookie.proofs.MessageLaws.{is-4, is-16, is-8, is-short, is-long, is-between}
+use Rattle.cookie.proofs.MessageLaws.{is-4, is-16}
 use Rattle.cookie.specs.Claims.{HashedUnder, MatchedBy, AnAddress, IsGood, GoodExactlyWhen, OthersHold, EveryOtherAnswer}
 use Rattle.cookie.specs.Claims.AnAddress.{four, sixteen}
 use Rattle.verdict.specs.Serial.{age}
@@ -220,7 +221,7 @@ module _ (m : CookieMethod) (secrets : Secrets) (clock : ℕ) (address body : Li
   when-good mode on g = judged mode on ∙ rw (address-true address (g .from), legal (g .long), good-body g)
     where
       legal : length body ≡ 24 → isBody body ≡ true
-      legal long = sym (is-between body (λ e. omega (arith, long, e)) (omega arith) (omega arith))
+      legal long = sym (is-between (length body) (λ e. omega (arith, long, e)) (omega arith) (omega arith))
 
 not-address : (address : List ℕ) → (AnAddress address → ⊥) → isAddress address ≡ false
 not-address address ne = go (isAddress address) refl
@@ -250,7 +251,7 @@ module _ (m : CookieMethod) (secrets : Secrets) (clock : ℕ) (address body : Li
       go (some w) e = absurd (ne w (match-good m secrets address body w e))
 
   in-24 : length body ≡ 24 → isBody body ≡ true
-  in-24 long = sym (is-between body (λ e. omega (arith, long, e)) (omega arith) (omega arith))
+  in-24 long = sym (is-between (length body) (λ e. omega (arith, long, e)) (omega arith) (omega arith))
 
   pub others-hold : OthersHold m secrets clock address body
   unfolding judgement checkingRefusal byTime isTimely
@@ -258,11 +259,11 @@ module _ (m : CookieMethod) (secrets : Secrets) (clock : ℕ) (address body : Li
       record {
         no-address = λ mode ne. rw (not-address address ne);
         disabled = λ from. rw (address-true address from);
-        too-short = λ from n8 le. enabled ∙ rw (address-true address from, ← is-short body n8 (omega arith));
-        too-long = λ from ge. enabled ∙ rw (address-true address from, ← is-long body (λ e. omega (arith, ge, e)) ge);
-        client = λ from e. enabled ∙ rw (address-true address from, ← is-8 body e, ← judge-8 m secrets clock address body e);
+        too-short = λ from n8 le. enabled ∙ rw (address-true address from, ← is-short (length body) n8 (omega arith));
+        too-long = λ from ge. enabled ∙ rw (address-true address from, ← is-long (length body) (λ e. omega (arith, ge, e)) ge);
+        client = λ from e. enabled ∙ rw (address-true address from, ← is-8 (length body) e, ← judge-8 m secrets clock address body e);
         other-length = λ from ge le ne. (let n8 : length body ≡ 8 → ⊥ = λ e. omega (arith, ge, e) in
-            enabled ∙ rw (address-true address from, ← is-between body n8 ge (omega arith), ← judge-other m secrets clock address body n8 ne));
+            enabled ∙ rw (address-true address from, ← is-between (length body) n8 ge (omega arith), ← judge-other m secrets clock address body n8 ne));
         other-version = λ from long ne. enabled ∙ rw (address-true address from, in-24 long, ← judge-version m secrets clock address body long ne);
         other-hash = λ from long v ne. enabled ∙ rw (address-true address from, in-24 long, judge-matching m secrets clock address body long v, none-matches ne);
         too-old = λ from long v w h n e.

@@ -1,10 +1,10 @@
--- What the proofs of `is_address`, `is_body`, `word` and `hash` cite: lengths, words of bytes, and the hash of words. Assumes nothing.
+-- What the proofs of `is_address`, `word` and `hash` cite: lengths, words of bytes, and the hash of words. Assumes nothing.
 use mathlib.Core.Path.{_≡_, sym, ap, ap₂, _∙_}
 use mathlib.Core.Bool.{true, false}
 use mathlib.Core.List.{List, [], _∷_, _++_, append-assoc}
-use Prim.Native.Nat.{ℕ, _+_, _≤_, _<_}
+use Prim.Native.Nat.{ℕ, _+_, _≤_}
 use native.Mathlib.Omega.{arith}
-use borrow.Author.Tests.{eqb-true, eq-eqb, ne-eqb, le-leb, lt-leb}
+use borrow.Author.Tests.{eqb-true, eq-eqb, ne-eqb}
 use lib.ListN.{length, take, drop, getD}
 use lib.Seq.{take-add, take-all}
 use mir.Syntax.{w8}
@@ -13,7 +13,7 @@ use Rattle.octets.specs.Numbers.{leNumber, leBytes}
 use Rattle.octets.proofs.ReadLaws.{part-from, part-again, le64-at}
 use Rattle.secret.specs.declared.Secret.{Secret}
 use Rattle.siphash.specs.SipHash.{sipHash24}
-use Rattle.cookie.specs.ServerCookie.{isAddress, isBody}
+use Rattle.cookie.specs.ServerCookie.{isAddress}
 
 -- ---- lengths
 
@@ -29,22 +29,6 @@ module _ (s : List ℕ) where
   pub is-neither : (length s ≡ 4 → ⊥) → (length s ≡ 16 → ⊥) → false ≡ isAddress s
   unfolding isAddress
   is-neither n4 n16 = rw (ne-eqb (length s) 4 n4, ne-eqb (length s) 16 n16)
-
-  pub is-8 : length s ≡ 8 → true ≡ isBody s
-  unfolding isBody
-  is-8 e = rw e
-
-  pub is-between : (length s ≡ 8 → ⊥) → 16 ≤ length s → length s < 41 → true ≡ isBody s
-  unfolding isBody
-  is-between n8 low high = rw (ne-eqb (length s) 8 n8, le-leb 16 (length s) low, le-leb (length s) 40 (omega arith))
-
-  pub is-short : (length s ≡ 8 → ⊥) → length s < 16 → false ≡ isBody s
-  unfolding isBody
-  is-short n8 low = rw (ne-eqb (length s) 8 n8, lt-leb 16 (length s) low)
-
-  pub is-long : (length s ≡ 8 → ⊥) → 41 ≤ length s → false ≡ isBody s
-  unfolding isBody
-  is-long n8 high = rw (ne-eqb (length s) 8 n8, le-leb 16 (length s) (omega arith), lt-leb (length s) 40 (omega arith))
 
 -- an address that is not 4 bytes is 16
 pub address-16 : (s : List ℕ) → isAddress s ≡ true → (length s ≡ 4 → ⊥) → length s ≡ 16

@@ -4,12 +4,13 @@ use Prim.Native.Nat.{ℕ, zero, suc, _+_}
 use mathlib.Core.Bool.{Bool, true, false, not, cond, _&&_, _||_}
 use mathlib.Core.List.{List, [], _∷_, _++_}
 use mathlib.Core.Option.{Option, none, some}
-use lib.Dec.{eqb, leb}
+use lib.Dec.{eqb}
 use lib.IntN.{ℤ}
 use lib.ListN.{length, take, drop, getD}
 use Rattle.octets.specs.Numbers.{be32At}
 use Rattle.octets.specs.Refusals.{_when_, first}
 use Rattle.octets.specs.Runs.{sameRun}
+use Rattle.edns.specs.Options.{isCookieLength}
 use Rattle.secret.specs.declared.Secret.{Secret}
 use Rattle.secret.specs.declared.Secrets.{Secrets}
 use Rattle.secret.specs.Secrets.{generatingOf, otherOf}
@@ -137,9 +138,9 @@ isDisabled Enforced = false
 unfoldable pub isAddress : List ℕ → Bool
 isAddress address = eqb (length address) 4 || eqb (length address) 16
 
--- a COOKIE body is 8 bytes, or 16 to 40
-unfoldable pub isBody : List ℕ → Bool
-isBody body = eqb (length body) 8 || leb 16 (length body) && leb (length body) 40
+-- a COOKIE body is 8 bytes, or 16 to 40, as edns/specs/Options.antt says
+abbrev pub isBody : List ℕ → Bool
+isBody body = isCookieLength (length body)
 
 -- the number of the first that applies, 0 for none
 unfoldable pub checkingRefusal : Mode → List ℕ → List ℕ → ℕ

@@ -15,7 +15,7 @@ ghost use lib.ListN.{length};
 ghost use Rattle.octets.specs.Numbers.{leBytes, be32At};
 ghost use Rattle.cookie.specs.Match.{matchOf};
 ghost use Rattle.verdict.specs.Findings.{finding};
-ghost use Rattle.cookie.specs.ServerCookie.{answerOf, sipHashMethod, matches, matching, judgeBody, judgement, isDisabled, isAddress, isBody};
+ghost use Rattle.cookie.specs.ServerCookie.{answerOf, sipHashMethod, matches, matching, judgeBody, judgement, isDisabled, isAddress};
 
 // The secret that matches, if one does.
 enum Match {
@@ -103,17 +103,6 @@ fn is_disabled(mode: Mode) -> bool
     }
 }
 
-// Whether a COOKIE body is 8 bytes, or 16 to 40.
-fn is_body(body: &[u8]) -> bool
-    ensures { λ r. ⌜ r ≡ isBody (now (body .entry)) ⌝ }
-{
-    match body.len() {
-        8 => true,
-        16..=40 => true,
-        _ => false,
-    }
-}
-
 // Judges a COOKIE body of any bytes: the verdict, or the refusal of what can't be judged.
 pub fn judge(mode: Mode, secrets: Secrets, clock: u32, address: &[u8], body: &[u8]) -> Judged
     ensures { λ r. ⌜ answerOf r ≡ judgement sipHashMethod mode secrets clock (now (address .entry)) (now (body .entry)) ⌝ }
@@ -124,7 +113,7 @@ pub fn judge(mode: Mode, secrets: Secrets, clock: u32, address: &[u8], body: &[u
     if is_disabled(mode) {
         return Judged::Found(Verdict::Ignored);
     }
-    if !is_body(body) {
+    if !edns::is_cookie_length(body.len()) {
         return Judged::Refused(Refusal::Body);
     }
     Judged::Found(judge_body(secrets, clock, address, body))

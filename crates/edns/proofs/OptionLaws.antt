@@ -12,7 +12,7 @@ use lib.ListN.{length, getD}
 use Rattle.octets.specs.Numbers.{beNumber, be16At}
 use Rattle.octets.specs.Refusals.{_when_, first}
 use Rattle.edns.specs.Answers.{foundOf, listingOf}
-use Rattle.edns.specs.Options.{fields, optionAt, optionsIn, optionsFrom, options, isPast, listed, isCookie, firstCookie, Listed, place, unlessRefused, cookieIn}
+use Rattle.edns.specs.Options.{fields, optionAt, optionsIn, optionsFrom, options, isPast, listed, isCookie, firstCookie, place, unlessRefused, cookieIn}
 use Rattle.edns.specs.Scan.{withCookie, withOption, withOptions, scan}
 use Rattle.edns.specs.declared.EdnsOption.{EdnsOption}
 use Rattle.edns.specs.declared.Found.{Found}

@@ -1,18 +1,17 @@
 -- Where a name ends, by one label at a time and with no count of turns. Assumes nothing.
 use Prim.Native.Nat.{ℕ, zero, suc, _+_, _-_, _≤_, _<_}
 use mathlib.Core.Path.{_≡_, refl, sym, ap, _∙_}
-use mathlib.Core.Bool.{Bool, true, false, cond, _&&_, and-false}
+use mathlib.Core.Bool.{Bool, true, false, cond, and-false}
 use mathlib.Core.List.{List}
 use mathlib.Core.Option.{Option, none, some, Option·none-ne-some}
 use native.Mathlib.Decide.{decLt}
 use native.Mathlib.Omega.{arith}
-use borrow.Author.Tests.{lt-ltb, le-ltb, le-leb, lt-leb, eq-eqb, ne-eqb}
-use lib.Dec.{eqb, leb}
+use borrow.Author.Tests.{le-leb, lt-leb, ne-eqb}
 use lib.ListN.{length, getD, List·getD-eq-default}
 use Rattle.message.specs.Answers.{endOf}
 use Rattle.message.specs.declared.End.{End}
 use Rattle.message.specs.declared.End.the-variants.{At}
-use Rattle.message.specs.Name.{within, isLabel, pastLabels, labelsEnd, terminator, nameEnd}
+use Rattle.message.specs.Name.{isLabel, pastLabels, labelsEnd, terminator, nameEnd}
 
 -- ---- labels
 

@@ -1,8 +1,8 @@
 -- Questions and records, from where their name ends. Assumes nothing.
-use Prim.Native.Nat.{ℕ, zero, suc, _+_, _-_, _≤_, _<_}
-use mathlib.Core.Path.{_≡_, refl, sym, ap, _∙_}
+use Prim.Native.Nat.{ℕ, _+_, _-_, _≤_, _<_}
+use mathlib.Core.Path.{_≡_, ap, _∙_}
 use mathlib.Core.List.{List, [], _∷_}
-use mathlib.Core.Option.{Option, none, some, bind}
+use mathlib.Core.Option.{none, some, bind}
 use native.Mathlib.Omega.{arith}
 use borrow.Author.Tests.{le-leb, lt-leb}
 use lib.Dec.{eqb}
@@ -10,7 +10,7 @@ use lib.ListN.{length, getD}
 use Rattle.octets.specs.Numbers.{beNumber, be16At}
 use Rattle.message.specs.Answers.{endOf}
 use Rattle.message.specs.Name.{nameEnd}
-use Rattle.message.specs.Record.{questionEnd, fields, recordAt}
+use Rattle.message.specs.Record.{questionEnd, recordAt}
 use Rattle.message.specs.declared.End.{End}
 use Rattle.message.specs.declared.End.the-variants.{At, Malformed}
 

@@ -1,13 +1,13 @@
 -- The checks in the order in which the code comes to them. Assumes nothing.
-use Prim.Native.Nat.{ℕ, zero, suc, _+_, _-_, _≤_, _<_}
-use mathlib.Core.Path.{_≡_, refl, sym, ap, _∙_}
-use mathlib.Core.Bool.{Bool, true, false, not, cond, _||_, or-true}
+use Prim.Native.Nat.{ℕ, _+_, _-_, _≤_, _<_}
+use mathlib.Core.Path.{_≡_, refl, sym, _∙_}
+use mathlib.Core.Bool.{Bool, true, false, not, or-true}
 use mathlib.Core.List.{List, [], _∷_}
 use mathlib.Core.Option.{Option, none, some}
 use native.Mathlib.Omega.{arith}
 use borrow.Author.Tests.{lt-ltb, le-ltb, le-leb, lt-leb, eq-eqb, ne-eqb}
-use lib.Dec.{eqb, leb, ltb}
-use lib.ListN.{length, take, drop, getD, length-drop}
+use lib.Dec.{eqb}
+use lib.ListN.{length, drop, getD, length-drop}
 use Rattle.octets.specs.Refusals.{_when_, first}
 use Rattle.edns.specs.Options.{options, optionsFrom, optionsIn, isPast, firstCookie, isCookieLength, place, cookieIn}
 use Rattle.edns.specs.Options as edns
@@ -25,7 +25,7 @@ use Rattle.edns.specs.declared.Listing.{Listing}
 use Rattle.edns.specs.declared.Listing.the-variants.{Past, NoCookie, First}
 use Rattle.edns.proofs.Within.{cookie-inside}
 use lib.Seq.{length-take-le}
-use Rattle.request.specs.Request.{optsIn, dataOf, optData, versionOf, isIllegal, manyQuestions, restChecks, Answer, refused, noCookie, cookie, startOf, found, foundIn, answer, request}
+use Rattle.request.specs.Request.{optsIn, dataOf, optData, versionOf, isIllegal, manyQuestions, Answer, refused, noCookie, cookie, startOf, found, answer, request}
 use Rattle.request.specs.Rest.{afterCookie, afterList, afterOpt, afterOutline, afterHead}
 
 -- ---- what is left behind each step is what the checks say

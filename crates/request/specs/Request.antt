@@ -1,7 +1,7 @@
 -- Reading a request: document 01, "Reading a request" and "Answer numbers for a request", checks 3 to 10. Each check is a predicate on the whole message, and
 -- `checks` is their order. A predicate says something of every list of bytes, also where an earlier check refuses it. Assumes nothing.
 use Prim.Native.Nat.{ℕ, zero, suc, _+_, _-_}
-use mathlib.Core.Bool.{Bool, true, false, not, _||_}
+use mathlib.Core.Bool.{Bool, false, not, _||_}
 use mathlib.Core.List.{List, [], _∷_, _++_}
 use mathlib.Core.Option.{Option, none, some}
 use lib.Dec.{eqb, leb, ltb}

@@ -1,9 +1,8 @@
 -- What is left to do behind each step of the reading, over what that step found. Only private functions promise it. Assumes nothing.
-use Prim.Native.Nat.{ℕ, _+_, _-_, _≤_}
+use Prim.Native.Nat.{ℕ, _+_, _-_}
 use mathlib.Core.Bool.{not}
 use mathlib.Core.List.{List, [], _∷_}
 use lib.Dec.{eqb}
-use lib.ListN.{length}
 use Rattle.octets.specs.Refusals.{_when_, first}
 use Rattle.edns.specs.Options.{cookieIn, isCookieLength}
 use Rattle.edns.specs.Options as edns

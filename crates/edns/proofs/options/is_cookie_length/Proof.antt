@@ -2,8 +2,6 @@ use borrow.Author.Needs.{needs}
 use Rattle.edns.proofs.LengthLaws.{is-8, is-between, is-short, is-long}
 use Rattle.edns.proofs.options.is_cookie_length.Statement.{statement}
 use Rattle.edns.proofs.options.is_cookie_length.Tie as tie
-use Rattle.edns.proofs.options.is_cookie_length.Reads as reads
-use Rattle.edns.proofs.options.is_cookie_length.Lts as lts
 
 -- src/options.rt:70:1
 returns : tie.Need-returns

@@ -2,9 +2,6 @@ use Rattle.edns.proofs.OptionLaws.{option-short, option-cut, option-pas
 use borrow.Author.Needs.{needs}
 use Rattle.edns.proofs.options.option_at.Statement.{statement}
 use Rattle.edns.proofs.options.option_at.Tie as tie
-use Rattle.edns.proofs.options.option_at.Reads as reads
-use Rattle.edns.proofs.options.option_at.Lts as lts
-use Rattle.octets.proofs.be16.Reads as be16-reads
 
 -- src/options.rt:16:9
 returns : tie.Need-returns

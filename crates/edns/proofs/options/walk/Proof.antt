@@ -8,10 +8,6 @@ use borrow.Author.Needs.{needs}
 use Rattle.edns.proofs.OptionLaws.{scan-less, scan-next, scan-cut, scan-end, listing-is}
 use Rattle.edns.proofs.options.walk.Statement.{statement}
 use Rattle.edns.proofs.options.walk.Tie as tie
-use Rattle.edns.proofs.options.walk.Reads as reads
-use Rattle.edns.proofs.options.walk.Lts as lts
-use Rattle.edns.proofs.options.option_at.Reads as option-at-reads
-use Rattle.edns.proofs.options.with_option.Reads as with-option-reads
 
 abbrev Inv-loop : tie.InvT-loop
 Inv-loop rdata at₀ known₀ at known = scan known (optionsFrom rdata at) ≡ scan NoCookie (options rdata)

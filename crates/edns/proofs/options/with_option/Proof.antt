@@ -2,8 +2,6 @@ use Rattle.edns.proofs.OptionLaws.{cookie-first, cookie-later, cookie-p
 use borrow.Author.Needs.{needs}
 use Rattle.edns.proofs.options.with_option.Statement.{statement}
 use Rattle.edns.proofs.options.with_option.Tie as tie
-use Rattle.edns.proofs.options.with_option.Reads as reads
-use Rattle.edns.proofs.options.with_option.Lts as lts
 
 -- src/options.rt:38:49
 enum-told : tie.Need-enum-told

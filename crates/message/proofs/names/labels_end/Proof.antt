@@ -6,8 +6,6 @@ use mathlib.Core.Path.{_≡_, refl}
 use borrow.Author.Needs.{needs}
 use Rattle.message.proofs.names.labels_end.Statement.{statement}
 use Rattle.message.proofs.names.labels_end.Tie as tie
-use Rattle.message.proofs.names.labels_end.Reads as reads
-use Rattle.message.proofs.names.labels_end.Lts as lts
 
 abbrev Inv-loop : tie.InvT-loop
 Inv-loop message at i₀ i = labelsEnd message i ≡ labelsEnd message at

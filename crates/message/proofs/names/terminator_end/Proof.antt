@@ -2,8 +2,6 @@ use Rattle.message.proofs.NameLaws.{ends-past, ends-zero, ends-reserved
 use borrow.Author.Needs.{needs}
 use Rattle.message.proofs.names.terminator_end.Statement.{statement}
 use Rattle.message.proofs.names.terminator_end.Tie as tie
-use Rattle.message.proofs.names.terminator_end.Reads as reads
-use Rattle.message.proofs.names.terminator_end.Lts as lts
 
 -- src/names.rt:30:9
 returns : tie.Need-returns

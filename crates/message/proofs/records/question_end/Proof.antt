@@ -2,9 +2,6 @@ use Rattle.message.proofs.RecordLaws.{question-no-name, question-short,
 use borrow.Author.Needs.{needs}
 use Rattle.message.proofs.records.question_end.Statement.{statement}
 use Rattle.message.proofs.records.question_end.Tie as tie
-use Rattle.message.proofs.records.question_end.Reads as reads
-use Rattle.message.proofs.records.question_end.Lts as lts
-use Rattle.message.proofs.names.name_end.Reads as name-end-reads
 
 -- src/records.rt:13:9
 name-end-requires : tie.Need-name-end-requires

@@ -3,10 +3,6 @@ use Rattle.message.proofs.RecordLaws.{record-no-name, record-short, rec
 use borrow.Author.Needs.{needs}
 use Rattle.message.proofs.records.record_at.Statement.{statement}
 use Rattle.message.proofs.records.record_at.Tie as tie
-use Rattle.message.proofs.records.record_at.Reads as reads
-use Rattle.message.proofs.records.record_at.Lts as lts
-use Rattle.message.proofs.names.name_end.Reads as name-end-reads
-use Rattle.octets.proofs.be16.Reads as be16-reads
 
 -- src/records.rt:30:9
 name-end-requires : tie.Need-name-end-requires

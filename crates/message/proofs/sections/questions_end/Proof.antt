@@ -4,9 +4,6 @@ use mathlib.Core.Path.{_≡_, refl}
 use borrow.Author.Needs.{needs}
 use Rattle.message.proofs.sections.questions_end.Statement.{statement}
 use Rattle.message.proofs.sections.questions_end.Tie as tie
-use Rattle.message.proofs.sections.questions_end.Reads as reads
-use Rattle.message.proofs.sections.questions_end.Lts as lts
-use Rattle.message.proofs.records.question_end.Reads as question-end-reads
 
 abbrev Inv-loop : tie.InvT-loop
 Inv-loop message count from left₀ at₀ left at = questionsEnd left message at ≡ questionsEnd count message from

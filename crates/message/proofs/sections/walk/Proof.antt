@@ -2,11 +2,6 @@ use Rattle.message.proofs.MessageLaws.{outline-short, outline-no-questi
 use borrow.Author.Needs.{needs}
 use Rattle.message.proofs.sections.walk.Statement.{statement}
 use Rattle.message.proofs.sections.walk.Tie as tie
-use Rattle.message.proofs.sections.walk.Reads as reads
-use Rattle.message.proofs.sections.walk.Lts as lts
-use Rattle.message.proofs.sections.questions_end.Reads as questions-end-reads
-use Rattle.message.proofs.sections.walk_records.Reads as walk-records-reads
-use Rattle.octets.proofs.be16.Reads as be16-reads
 
 -- src/sections.rt:82:9
 returns : tie.Need-returns

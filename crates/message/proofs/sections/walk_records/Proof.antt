@@ -6,10 +6,6 @@ use mathlib.Core.Path.{_≡_, refl}
 use borrow.Author.Needs.{needs}
 use Rattle.message.proofs.sections.walk_records.Statement.{statement}
 use Rattle.message.proofs.sections.walk_records.Tie as tie
-use Rattle.message.proofs.sections.walk_records.Reads as reads
-use Rattle.message.proofs.sections.walk_records.Lts as lts
-use Rattle.message.proofs.records.record_at.Reads as record-at-reads
-use Rattle.message.proofs.sections.with_record.Reads as with-record-reads
 
 abbrev Inv-loop : tie.InvT-loop
 Inv-loop message count additional from left₀ at₀ known₀ left at known = scanned (left - additional) known left message at ≡ scanned (count - additional) NoOpt count message from

@@ -2,8 +2,6 @@ use Rattle.message.proofs.ScanLaws.{opt-first, opt-second, opt-wrong, o
 use borrow.Author.Needs.{needs}
 use Rattle.message.proofs.sections.with_record.Statement.{statement}
 use Rattle.message.proofs.sections.with_record.Tie as tie
-use Rattle.message.proofs.sections.with_record.Reads as reads
-use Rattle.message.proofs.sections.with_record.Lts as lts
 
 -- src/sections.rt:40:39
 enum-told : tie.Need-enum-told

@@ -2,9 +2,6 @@ use Rattle.request.proofs.BodyLaws.{body-ordered, body-within, body-ref
 use borrow.Author.Needs.{needs}
 use Rattle.request.proofs.checks.cookie_body.Statement.{statement}
 use Rattle.request.proofs.checks.cookie_body.Tie as tie
-use Rattle.request.proofs.checks.cookie_body.Reads as reads
-use Rattle.request.proofs.checks.cookie_body.Lts as lts
-use Rattle.request.proofs.checks.read.Reads as read-reads
 
 -- src/checks.rt:88:11
 read-requires : tie.Need-read-requires

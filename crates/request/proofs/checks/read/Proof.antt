@@ -2,9 +2,6 @@ use Rattle.request.proofs.RestLaws.{refuse-short, refuse-long, refuse-4
 use borrow.Author.Needs.{needs}
 use Rattle.request.proofs.checks.read.Statement.{statement}
 use Rattle.request.proofs.checks.read.Tie as tie
-use Rattle.request.proofs.checks.read.Reads as reads
-use Rattle.request.proofs.checks.read.Lts as lts
-use Rattle.request.proofs.checks.read_rest.Reads as read-rest-reads
 
 -- src/checks.rt:73:9
 returns : tie.Need-returns

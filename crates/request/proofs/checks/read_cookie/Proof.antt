@@ -2,9 +2,6 @@ use Rattle.request.proofs.RestLaws.{refuse-10, cookie-found}
 use borrow.Author.Needs.{needs}
 use Rattle.request.proofs.checks.read_cookie.Statement.{statement}
 use Rattle.request.proofs.checks.read_cookie.Tie as tie
-use Rattle.request.proofs.checks.read_cookie.Reads as reads
-use Rattle.request.proofs.checks.read_cookie.Lts as lts
-use Rattle.edns.proofs.is_cookie_length.Reads as is-cookie-length-reads
 
 -- src/checks.rt:22:32
 sub-is-cookie-length : tie.Need-sub-is-cookie-length

@@ -2,10 +2,6 @@ use Rattle.request.proofs.RestLaws.{refuse-8, cookie-ordered, cookie-fi
 use borrow.Author.Needs.{needs}
 use Rattle.request.proofs.checks.read_opt.Statement.{statement}
 use Rattle.request.proofs.checks.read_opt.Tie as tie
-use Rattle.request.proofs.checks.read_opt.Reads as reads
-use Rattle.request.proofs.checks.read_opt.Lts as lts
-use Rattle.edns.proofs.walk.Reads as walk-reads
-use Rattle.request.proofs.checks.read_cookie.Reads as read-cookie-reads
 
 -- src/checks.rt:40:9
 returns : tie.Need-returns

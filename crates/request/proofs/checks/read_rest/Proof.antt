@@ -2,11 +2,6 @@ use Rattle.request.proofs.RestLaws.{refuse-5, opt-ordered, opt-within, 
 use borrow.Author.Needs.{needs}
 use Rattle.request.proofs.checks.read_rest.Statement.{statement}
 use Rattle.request.proofs.checks.read_rest.Tie as tie
-use Rattle.request.proofs.checks.read_rest.Reads as reads
-use Rattle.request.proofs.checks.read_rest.Lts as lts
-use Rattle.message.proofs.walk.Reads as walk-reads
-use Rattle.octets.proofs.be16.Reads as be16-reads
-use Rattle.request.proofs.checks.read_opt.Reads as read-opt-reads
 
 -- src/checks.rt:56:32
 shared-slice-read-be16 : tie.Need-shared-slice-read-be16
