@@ -1,3 +1,4 @@
+pub mod Cases
 pub mod LengthLaws
 pub mod OptionLaws
 pub mod Within

@@ -1,3 +1,4 @@
+pub mod Cases
 pub mod MessageLaws
 pub mod NameLaws
 pub mod RecordLaws

@@ -1,4 +1,5 @@
 pub mod Answers
+pub mod Cases
 pub mod Message
 pub mod Name
 pub mod Record
