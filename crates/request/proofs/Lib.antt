@@ -1,3 +1,4 @@
 pub mod BodyLaws
 pub mod Cases
+pub mod Claims
 pub mod RestLaws

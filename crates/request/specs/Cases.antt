@@ -3,13 +3,13 @@
 use mathlib.Core.Path.{_≡_}
 use mathlib.Core.Bool.{true, false}
 use mathlib.Core.List.{List, [], _∷_, _++_, map}
-use Prim.Native.Nat.{ℕ, zero, suc, _+_, _<_, _≤_}
+use Prim.Native.Nat.{ℕ, zero, suc, _+_, _≤_}
 use lib.ListN.{length, replicate}
 use Rattle.octets.specs.Numbers.{beBytes, printed}
 use Rattle.octets.specs.Refusals.{Row}
 use Rattle.edns.specs.declared.Cookie.{Cookie}
 use Rattle.request.specs.Answers.{refusalNumber, answerOf}
-use Rattle.request.specs.Request.{wrongSize, isResponse, checks, headChecks, restChecks, Answer, refused, noCookie, cookie, request, bodyAt, cookieBody}
+use Rattle.request.specs.Request.{wrongSize, isResponse, checks, headChecks, refused, noCookie, cookie, request, bodyAt, cookieBody}
 use Rattle.request.specs.declared.Reading.the-variants as reading-as
 use Rattle.request.specs.declared.Refusal.{Refusal}
 use Rattle.request.specs.declared.Refusal.the-variants.{Size, Response, Questions, Malformed, WrongOpt, Version, OptionPast, CookieLength}
