@@ -89,7 +89,7 @@ module _ (s : List ℕ) (a at : ℕ) (known : Outline) (all : Outline) where
   scan-next zero so-far h f found r k next e = absurd (omega arith)
   scan-next (suc n) so-far h f found r k next e =
       let one : scan (suc n - a) known (records (suc n) s at) ≡ scan (suc n - a - 1) (withRecord known (eqb (suc n - a) 0) r) (records n s (r .end)) =
-          rw (← found, k) (scan-push (suc n - a) r (records n s (r .end))) in
+      rw (← found, k) (scan-push (suc n - a) r (records n s (r .end))) in
       let left-is : suc n - 1 ≡ n = omega arith in
       let before-is : suc n - 1 - a ≡ suc n - a - 1 = omega arith in
       rw (before-is, left-is, e, still-before (suc n) a) (sym one ∙ so-far)

@@ -130,6 +130,7 @@ split (o ∷ os) = pick (isCookie o) refl (firstCookie os) (split os)
     push : (p : Option EdnsOption) → (o .code ≡ 10 → ⊥) → Split os p → Split (o ∷ os) p
     push none other is = (other, is)
     push (some p) other is = (o ∷ is .0, is .1, ap (λ (l : List EdnsOption). o ∷ l) (is .2), (other, is .3), is .4)
+
     pick : (b : Bool) → isCookie o ≡ b → (p : Option EdnsOption) → Split os p → Split (o ∷ os) (cond b (some o) p)
     pick true e p is = ([], os, refl, tt, eqb-true (o .code) 10 e)
     pick false e p is = push p (λ c. true≢false (sym (eq-eqb (o .code) 10 c) ∙ e)) is
@@ -148,22 +149,24 @@ module _ (s : List ℕ) (all : List Record) (opt : Record) (the-opt : TheOpt s a
   told-cookie (some o) is i =
       let o-ordered : o .start ≤ o .end = i .ordered in
       let long : length (dataOf s opt) ≡ opt .end - opt .start =
-          length-take-le (opt .end - opt .start) (drop (opt .start) s) (omega (arith, length-drop (opt .start) s, the-opt .ordered, the-opt .inside)) in
-      (refl, record {
-        all = all;
-        opt = opt;
-        the-opt = the-opt;
-        before = is .0;
-        option = o;
-        after = is .1;
-        listed = listed ∙ ap (λ (l : List EdnsOption). some l) (is .2);
-        none-before = is .3;
-        code = is .4;
-        starts = refl;
-        ends = refl;
-        ordered = omega arith;
-        in-data = omega (arith, i .within, long, the-opt .ordered);
-      })
+      length-take-le (opt .end - opt .start) (drop (opt .start) s) (omega (arith, length-drop (opt .start) s, the-opt .ordered, the-opt .inside)) in (
+        refl,
+        record {
+          all = all;
+          opt = opt;
+          the-opt = the-opt;
+          before = is .0;
+          option = o;
+          after = is .1;
+          listed = listed ∙ ap (λ (l : List EdnsOption). some l) (is .2);
+          none-before = is .3;
+          code = is .4;
+          starts = refl;
+          ends = refl;
+          ordered = omega arith;
+          in-data = omega (arith, i .within, long, the-opt .ordered);
+        },
+      )
 
 module _ (s : List ℕ) where
   abbrev foundFrom : List Record → Answer

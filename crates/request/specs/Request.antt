@@ -7,7 +7,7 @@ use mathlib.Core.Option.{Option, none, some}
 use lib.Dec.{eqb, leb, ltb}
 use lib.ListN.{length, take, drop, getD}
 use Rattle.octets.specs.Refusals.{Row, _when_, first}
-use Rattle.edns.specs.Options.{options, isPast, firstCookie, isCookieLength} 
+use Rattle.edns.specs.Options.{options, isPast, firstCookie, isCookieLength}
 use Rattle.edns.specs.Options as edns
 use Rattle.edns.specs.declared.EdnsOption.{EdnsOption}
 use Rattle.message.specs.Message.{qdcount, sections, malformed, opts, wrongOpt}
