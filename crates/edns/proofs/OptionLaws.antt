@@ -3,16 +3,16 @@ use Prim.Native.Nat.{ℕ, zero, suc, _+_, _-_, _≤_, _<_}
 use mathlib.Core.Path.{_≡_, refl, sym, ap, _∙_}
 use mathlib.Core.Bool.{Bool, true, false, cond}
 use mathlib.Core.List.{List, [], _∷_}
-use mathlib.Core.Option.{Option, none, some, bind, Option·none-ne-some, Option·some-injective}
+use mathlib.Core.Option.{Option, none, some, bind, Option·none-ne-some, Option·some-injective, Option·getD}
 use native.Mathlib.Decide.{decLe}
 use native.Mathlib.Omega.{arith}
 use borrow.Author.Tests.{le-leb, lt-leb, eq-eqb, ne-eqb}
 use lib.Dec.{leb}
 use lib.ListN.{length, getD}
 use Rattle.octets.specs.Numbers.{beNumber, be16At}
-use Rattle.octets.specs.Refusals.{_when_, first}
+use Rattle.octets.specs.Refusals.{_when_, first, answered, isNone}
 use Rattle.edns.specs.Answers.{foundOf, listingOf}
-use Rattle.edns.specs.Options.{fields, optionAt, optionsIn, optionsFrom, options, isPast, listed, isCookie, firstCookie, place, unlessRefused, cookieIn}
+use Rattle.edns.specs.Options.{fields, optionAt, optionsIn, optionsFrom, options, isCookie, firstCookie, refused, place, cookieIn}
 use Rattle.edns.specs.Scan.{withCookie, withOption, withOptions, scan}
 use Rattle.edns.specs.declared.EdnsOption.{EdnsOption}
 use Rattle.edns.specs.declared.Found.{Found}
@@ -144,7 +144,7 @@ pub listing-is : (d : List ℕ) (l : Listing) → l ≡ scan NoCookie (options d
 unfolding cookieIn
 listing-is d l e = ap listingOf e ∙ pick (options d)
   where
-    pick : (x : Option (List EdnsOption)) → listingOf (scan NoCookie x) ≡ unlessRefused (first (9 when isPast x ∷ [])) (place (firstCookie (listed x)))
+    pick : (x : Option (List EdnsOption)) → listingOf (scan NoCookie x) ≡ answered refused (first (9 when isNone x ∷ [])) (place (firstCookie (Option·getD x [])))
     pick none = refl
     pick (some os) = scan-is os
 

@@ -7,6 +7,7 @@ use Rattle.edns.specs.declared.Found.the-variants as found-as
 use Rattle.edns.specs.declared.Listing.{Listing}
 use Rattle.edns.specs.declared.Listing.the-variants as listing-as
 
+-- the option that starts at a place
 abbrev pub foundOf : Found → Option EdnsOption
 foundOf (found-as.Inside o) = some o
 foundOf found-as.Past = none

@@ -1,13 +1,13 @@
 -- The options of an OPT record's data: RFC 6891, section 6.1.2; the COOKIE option: RFC 7873, section 4; document 01, "Reading a request" and checks 9 and
 -- 10. Data is a list of bytes, read by places from 0 on; a byte past the end reads as 0. Assumes nothing.
 use Prim.Native.Nat.{ℕ, zero, suc, _+_}
-use mathlib.Core.Bool.{Bool, true, false, cond, _&&_, _||_}
+use mathlib.Core.Bool.{Bool, cond, _&&_, _||_}
 use mathlib.Core.List.{List, [], _∷_}
-use mathlib.Core.Option.{Option, none, some, bind}
+use mathlib.Core.Option.{Option, none, some, bind, Option·getD}
 use lib.Dec.{eqb, leb}
 use lib.ListN.{length}
 use Rattle.octets.specs.Numbers.{be16At}
-use Rattle.octets.specs.Refusals.{_when_, first}
+use Rattle.octets.specs.Refusals.{_when_, first, answered, isNone}
 use Rattle.edns.specs.declared.EdnsOption.{EdnsOption}
 
 -- ---- the list
@@ -20,6 +20,7 @@ fields d at = record { code = be16At d at; start = at + 4; end = at + 4 + be16At
 abbrev pub whole : List ℕ → EdnsOption → Option EdnsOption
 whole d o = cond (leb (o .end) (length d)) (some o) none
 
+-- the option that starts here
 unfoldable pub optionAt : List ℕ → ℕ → Option EdnsOption
 optionAt d at = whole d (fields d at)
 
@@ -31,6 +32,7 @@ optionsIn (suc turns) d at =
     cond (leb (length d) at) (some [])
     (bind (optionAt d at) (λ o. bind (optionsIn turns d (o .end)) (λ rest. some (o ∷ rest))))
 
+-- with turns enough
 unfoldable pub optionsFrom : List ℕ → ℕ → Option (List EdnsOption)
 optionsFrom d at = optionsIn (length d) d at
 
@@ -38,15 +40,13 @@ optionsFrom d at = optionsIn (length d) d at
 abbrev pub options : List ℕ → Option (List EdnsOption)
 options d = optionsFrom d 0
 
--- 9: an option past the OPT data
-abbrev pub isPast : Option (List EdnsOption) → Bool
-isPast none = true
-isPast (some os) = false
-
 -- the same as a list, empty where an option is past the data
-abbrev pub listed : Option (List EdnsOption) → List EdnsOption
-listed none = []
-listed (some os) = os
+abbrev pub optionsOf : List ℕ → List EdnsOption
+optionsOf d = Option·getD (options d) []
+
+-- 9: an option past the OPT data
+abbrev pub optionPast : List ℕ → Bool
+optionPast d = isNone (options d)
 
 -- ---- the first COOKIE option
 
@@ -54,6 +54,7 @@ listed (some os) = os
 abbrev pub isCookie : EdnsOption → Bool
 isCookie o = eqb (o .code) 10
 
+-- the first of them, if there is one
 unfoldable pub firstCookie : List EdnsOption → Option EdnsOption
 firstCookie [] = none
 firstCookie (o ∷ os) = cond (isCookie o) (some o) (firstCookie os)
@@ -70,14 +71,11 @@ pub data Listed : Type 0 where
   noCookie : Listed
   cookie : ℕ → ℕ → Listed
 
+-- where its body lies
 abbrev pub place : Option EdnsOption → Listed
 place none = noCookie
 place (some o) = cookie (o .start) (o .end)
 
-abbrev pub unlessRefused : ℕ → Listed → Listed
-unlessRefused zero l = l
-unlessRefused (suc n) l = refused (suc n)
-
 -- check 9 covers the whole list
 unfoldable pub cookieIn : List ℕ → Listed
-cookieIn d = unlessRefused (first (9 when isPast (options d) ∷ [])) (place (firstCookie (listed (options d))))
+cookieIn d = answered refused (first (9 when optionPast d ∷ [])) (place (firstCookie (optionsOf d)))

@@ -22,6 +22,7 @@ unfoldable pub withOptions : Listing → List EdnsOption → Listing
 withOptions known [] = known
 withOptions known (o ∷ os) = withOptions (withOption known o) os
 
+-- or that one is past the data
 abbrev pub scan : Listing → Option (List EdnsOption) → Listing
 scan known none = Past
 scan known (some os) = withOptions known os

@@ -3,14 +3,14 @@ use Prim.Native.Nat.{ℕ, zero, suc, _+_, _-_, _≤_, _<_}
 use mathlib.Core.Path.{_≡_, refl, sym, ap, _∙_}
 use mathlib.Core.Bool.{Bool, true, false}
 use mathlib.Core.List.{List, [], _∷_}
-use mathlib.Core.Option.{Option, none, some, bind}
+use mathlib.Core.Option.{Option, none, some, bind, Option·getD}
 use native.Mathlib.Omega.{arith}
 use borrow.Author.Tests.{ne-eqb}
 use lib.ListN.{length}
 use Rattle.message.specs.Answers.{endOf, outlineOf}
-use Rattle.octets.specs.Refusals.{_when_, first}
+use Rattle.octets.specs.Refusals.{_when_, first, answered, isNone}
 use Rattle.message.proofs.ScanLaws.{outcome, scan-is}
-use Rattle.message.specs.Message.{qdcount, ancount, nscount, arcount, questionsEnd, records, sections, listed, isNone, opts, wrongAmong, Outlined, refused, firstOpt, unlessRefused, outline}
+use Rattle.message.specs.Message.{qdcount, ancount, nscount, arcount, questionsEnd, records, sections, opts, wrongAmong, Outlined, refused, firstOpt, outline}
 use Rattle.message.proofs.NameLaws.{name-past}
 use Rattle.message.specs.Record.{questionEnd, recordAt}
 use Rattle.message.specs.Scan.{scan, scanned}
@@ -49,15 +49,15 @@ unfolding sections bind
 sections-from s at ended = rw (← ended)
 
 -- what is answered, over what the records gave
-abbrev answered : ℕ → Option (List Record) → Outlined
-answered n x = unlessRefused (first (6 when isNone x ∷ 7 when wrongAmong n (listed x) ∷ [])) (firstOpt (opts (listed x)))
+abbrev outcomeOf : ℕ → Option (List Record) → Outlined
+outcomeOf n x = answered refused (first (6 when isNone x ∷ 7 when wrongAmong n (Option·getD x []) ∷ [])) (firstOpt (opts (Option·getD x [])))
 
-outcome-is : (wrong : Bool) (os : List Record) → outlineOf (outcome wrong os) ≡ unlessRefused (first (6 when false ∷ 7 when wrong ∷ [])) (firstOpt os)
+outcome-is : (wrong : Bool) (os : List Record) → outlineOf (outcome wrong os) ≡ answered refused (first (6 when false ∷ 7 when wrong ∷ [])) (firstOpt os)
 outcome-is true os = refl
 outcome-is false [] = refl
 outcome-is false (r ∷ rs) = refl
 
-scan-answered : (n : ℕ) (x : Option (List Record)) → outlineOf (scan n NoOpt x) ≡ answered n x
+scan-answered : (n : ℕ) (x : Option (List Record)) → outlineOf (scan n NoOpt x) ≡ outcomeOf n x
 scan-answered n none = refl
 scan-answered n (some rs) = ap outlineOf (scan-is n rs) ∙ outcome-is (wrongAmong n rs) (opts rs)
 

@@ -10,10 +10,12 @@ use Rattle.message.specs.declared.Outline.{Outline}
 use Rattle.message.specs.declared.Outline.the-variants as outline-as
 use Rattle.message.specs.declared.Record.{Record}
 
+-- where a part ends
 abbrev pub endOf : End → Option ℕ
 endOf (end-as.At end) = some end
 endOf end-as.Malformed = none
 
+-- the record that starts at a place
 abbrev pub foundOf : Found → Option Record
 foundOf (found-as.Whole r) = some r
 foundOf found-as.Cut = none

@@ -2,16 +2,17 @@
 use Prim.Native.Nat.{ℕ, zero, suc, _+_}
 use mathlib.Core.Bool.{Bool, true, false, not, cond, _||_}
 use mathlib.Core.List.{List, [], _∷_}
-use mathlib.Core.Option.{Option, none, some, bind}
+use mathlib.Core.Option.{Option, none, some, bind, Option·getD}
 use lib.Dec.{eqb}
 use lib.ListN.{length, take}
 use Rattle.octets.specs.Numbers.{be16At}
-use Rattle.octets.specs.Refusals.{_when_, first}
+use Rattle.octets.specs.Refusals.{_when_, first, answered, isNone}
 use Rattle.message.specs.Record.{questionEnd, recordAt}
 use Rattle.message.specs.declared.Record.{Record}
 
 -- ---- the header: 12 bytes, of which the last eight are four counts
 
+-- how many questions, and how many records of the answer, the authority and the additional section
 abbrev pub qdcount : List ℕ → ℕ
 qdcount s = be16At s 4
 
@@ -40,14 +41,9 @@ records (suc n) s at = bind (recordAt s at) (λ r. bind (records n s (r .end)) (
 unfoldable pub sections : List ℕ → Option (List Record)
 sections s = bind (questionsEnd (qdcount s) s 12) (λ at. records (ancount s + nscount s + arcount s) s at)
 
--- the same as a list, empty for a message that is refused
-abbrev pub listed : {A : Type 0} → Option (List A) → List A
-listed none = []
-listed (some list) = list
-
-abbrev pub isNone : {A : Type 0} → Option A → Bool
-isNone none = true
-isNone (some x) = false
+-- the same as a list, empty for a message that check 6 refuses
+abbrev pub recordsOf : List ℕ → List Record
+recordsOf s = Option·getD (sections s) []
 
 -- 6: malformed name, a part past the end, bytes left over
 abbrev pub malformed : List ℕ → Bool
@@ -64,6 +60,7 @@ abbrev pub opts : List Record → List Record
 opts [] = []
 opts (r ∷ rs) = cond (isOpt r) (r ∷ opts rs) (opts rs)
 
+-- there is one
 abbrev pub isAny : List Record → Bool
 isAny [] = false
 isAny (r ∷ rs) = true
@@ -84,7 +81,7 @@ wrongAmong n rs = isAny (opts (take n rs)) || anyForeign (opts rs) || isSecond (
 
 -- 7: OPT misplaced, owner not root, or a second OPT
 abbrev pub wrongOpt : List ℕ → Bool
-wrongOpt s = wrongAmong (ancount s + nscount s) (listed (sections s))
+wrongOpt s = wrongAmong (ancount s + nscount s) (recordsOf s)
 
 -- ---- the answer
 
@@ -94,14 +91,11 @@ pub data Outlined : Type 0 where
   noOpt : Outlined
   theOpt : Record → Outlined
 
+-- where check 7 does not apply there is at most one
 abbrev pub firstOpt : List Record → Outlined
 firstOpt [] = noOpt
 firstOpt (r ∷ rs) = theOpt r
 
-abbrev pub unlessRefused : ℕ → Outlined → Outlined
-unlessRefused zero o = o
-unlessRefused (suc n) o = refused (suc n)
-
 -- check 6 covers the whole message before 7 is tried
 unfoldable pub outline : List ℕ → Outlined
-outline s = unlessRefused (first (6 when malformed s ∷ 7 when wrongOpt s ∷ [])) (firstOpt (opts (listed (sections s))))
+outline s = answered refused (first (6 when malformed s ∷ 7 when wrongOpt s ∷ [])) (firstOpt (opts (recordsOf s)))

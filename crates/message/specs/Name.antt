@@ -20,6 +20,7 @@ unfoldable pub pastLabels : ℕ → List ℕ → ℕ → ℕ
 pastLabels zero s at = at
 pastLabels (suc turns) s at = cond (isLabel s at) (pastLabels turns s (at + 1 + getD s at 0)) at
 
+-- with turns enough
 unfoldable pub labelsEnd : List ℕ → ℕ → ℕ
 labelsEnd s at = pastLabels (length s) s at
 

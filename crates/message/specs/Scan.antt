@@ -25,6 +25,7 @@ unfoldable pub withRecords : ℕ → Outline → List Record → Outline
 withRecords b known [] = known
 withRecords b known (r ∷ rs) = withRecords (b - 1) (withRecord known (eqb b 0) r) rs
 
+-- or that the records are not all there
 abbrev pub scan : ℕ → Outline → Option (List Record) → Outline
 scan b known none = Malformed
 scan b known (some rs) = withRecords b known rs

@@ -6,17 +6,17 @@ use mathlib.Core.Option.{Option, none, some}
 use native.Mathlib.Omega.{arith}
 use lib.ListN.{length, take, drop, length-drop}
 use lib.Seq.{length-take-le}
-use Rattle.octets.specs.Refusals.{first}
-use Rattle.edns.proofs.Within.{SomeInside, cookie-within}
-use Rattle.edns.specs.Options.{options, optionsFrom, optionsIn, firstCookie}
-use Rattle.edns.specs.Options as edns
+use Rattle.octets.specs.Refusals.{first, answered}
+use Rattle.octets.proofs.EachLaws.{Each, IfOne}
+use Rattle.edns.proofs.Within.{BodyInside, cookie-within}
+use Rattle.edns.specs.Options.{optionsFrom, optionsIn, optionsOf, firstCookie}
 use Rattle.edns.specs.declared.Cookie.{Cookie}
 use Rattle.edns.specs.declared.EdnsOption.{EdnsOption}
-use Rattle.message.proofs.Within.{AllInside, opts-within}
+use Rattle.message.proofs.Within.{DataInside, opts-within}
 use Rattle.message.specs.declared.Record.{Record}
 use Rattle.message.specs.Message.{qdcount}
 use Rattle.request.specs.Answers.{answerOf}
-use Rattle.request.specs.Request.{optsIn, dataOf, optData, Answer, refused, noCookie, cookie, startOf, found, foundIn, answer, checks, request, bodyAt, cookieBody}
+use Rattle.request.specs.Request.{optsIn, dataOf, optData, Answer, refused, noCookie, cookie, startOf, found, foundIn, checks, request, bodyAt, cookieBody}
 use Rattle.request.specs.declared.Reading.{Reading}
 use Rattle.request.specs.declared.Reading.the-variants as reading-as
 use Rattle.request.specs.declared.Refusal.{Refusal}
@@ -27,24 +27,24 @@ AnswerInside n (noCookie q) = Unit {0}
 AnswerInside n (cookie q start end) = (start ≤ end) × (end ≤ n)
 
 -- from the data to the message
-found-inside : (s : List ℕ) (r : Record) (q : ℕ) (c : Option EdnsOption) → r .start ≤ r .end → r .end ≤ length s → SomeInside (length (dataOf s r)) c
+found-inside : (s : List ℕ) (r : Record) (q : ℕ) (c : Option EdnsOption) → r .start ≤ r .end → r .end ≤ length s → IfOne (BodyInside (length (dataOf s r))) c
     → AnswerInside (length s) (found q (r .start) c)
 found-inside s r q none ordered within i = tt
 found-inside s r q (some o) ordered within i =
     let long : length (dataOf s r) ≡ r .end - r .start = length-take-le (r .end - r .start) (drop (r .start) s) (omega (arith, length-drop (r .start) s)) in
     (omega (arith, i .ordered), omega (arith, i .within, long))
 
-opts-found : (s : List ℕ) (q : ℕ) (os : List Record) → AllInside (length s) os
-    → AnswerInside (length s) (found q (startOf os) (firstCookie (edns.listed (options (optData s os)))))
+opts-found : (s : List ℕ) (q : ℕ) (os : List Record) → Each (DataInside (length s)) os
+    → AnswerInside (length s) (found q (startOf os) (firstCookie (optionsOf (optData s os))))
 unfolding optionsFrom optionsIn firstCookie
 opts-found s q [] is = tt
-opts-found s q (r ∷ rs) is = found-inside s r q (firstCookie (edns.listed (options (dataOf s r)))) (is .0 .ordered) (is .0 .within) (cookie-within (dataOf s r))
+opts-found s q (r ∷ rs) is = found-inside s r q (firstCookie (optionsOf (dataOf s r))) (is .0 .ordered) (is .0 .within) (cookie-within (dataOf s r))
 
 pub request-inside : (s : List ℕ) → AnswerInside (length s) (request s)
 unfolding request
 request-inside s = pick (first (checks s)) (foundIn s) (opts-found s (qdcount s) (optsIn s) (opts-within s))
   where
-    pick : (k : ℕ) (a : Answer) → AnswerInside (length s) a → AnswerInside (length s) (answer k a)
+    pick : (k : ℕ) (a : Answer) → AnswerInside (length s) a → AnswerInside (length s) (answered refused k a)
     pick zero a i = i
     pick (suc k) a i = tt
 

@@ -1,27 +1,27 @@
 -- The claims of specs/Claims.antt. Assumes nothing.
-use Prim.Native.Nat.{ℕ, suc, _+_, _-_, _≤_}
+use Prim.Native.Nat.{ℕ, _+_, _-_, _≤_}
 use mathlib.Core.Path.{_≡_, refl, sym, ap, subst, _∙_}
 use mathlib.Core.Bool.{Bool, true, false, not, cond, _||_, true≢false, false≢true}
 use mathlib.Core.List.{List, [], _∷_, _++_}
-use mathlib.Core.Option.{Option, none, some}
+use mathlib.Core.Option.{Option, none, some, Option·getD}
 use native.Mathlib.Omega.{arith}
 use borrow.Author.Tests.{eqb-true, eq-eqb}
 use lib.Dec.{eqb}
 use lib.ListN.{length, take, drop, length-drop}
 use lib.Seq.{length-take-le}
-use Rattle.octets.specs.Refusals.{Row, _when_, first}
-use Rattle.edns.proofs.Within.{SomeInside, cookie-within}
-use Rattle.edns.specs.Options.{options, optionsFrom, optionsIn, isPast, isCookie, firstCookie}
-use Rattle.edns.specs.Options as edns
+use Rattle.octets.specs.Refusals.{isNone, NoneApplies}
+use Rattle.octets.proofs.EachLaws.{Each, IfOne}
+use Rattle.octets.proofs.RefusalLaws.{Numbered, is-first, none-is, is-none, first-is, this-not, none-behind}
+use Rattle.edns.proofs.Within.{BodyInside, cookie-within}
+use Rattle.edns.specs.Options.{options, optionsFrom, optionsIn, optionsOf, optionPast, isCookie, firstCookie}
 use Rattle.edns.specs.declared.EdnsOption.{EdnsOption}
-use Rattle.message.proofs.Within.{AllInside, opts-within}
-use Rattle.message.specs.Message.{qdcount, ancount, nscount, sections, opts, isAny, isSecond, anyForeign, wrongAmong}
-use Rattle.message.specs.Message as message
+use Rattle.message.proofs.Within.{DataInside, opts-within}
+use Rattle.message.specs.Message.{qdcount, ancount, nscount, sections, recordsOf, opts, isAny, isSecond, anyForeign, wrongAmong}
 use Rattle.message.specs.declared.Record.{Record}
-use Rattle.request.specs.Claims.{FirstIs, this, later, NoneApplies, no-row, not-this, TheFirstIsGiven, NoCookies, TheOpt, TheCookie, WithoutCookie, no-opt, no-option, TheFirstIsFound}
-use Rattle.request.specs.Request.{optsIn, cookieOf, dataOf, optData, versionOf, checks, Answer, refused, noCookie, cookie, startOf, found, foundIn, answer, request, bodyAt, cookieBody}
+use Rattle.request.specs.Claims.{TheFirstIsGiven, NoCookies, TheOpt, TheCookie, WithoutCookie, no-opt, no-option, TheFirstIsFound}
+use Rattle.request.specs.Request.{optsIn, cookieOf, dataOf, optData, versionOf, checks, Answer, refused, noCookie, cookie, startOf, found, foundIn, request, bodyAt, cookieBody}
 
--- ---- rows
+-- ---- answers
 
 isRefused : Answer → Bool
 isRefused (refused n) = true
@@ -33,69 +33,28 @@ refusedBy (refused n) = n
 refusedBy (noCookie q) = 0
 refusedBy (cookie q a e) = 0
 
--- every number is one from 1 on
-abbrev Numbered : List Row → Type 0
-Numbered [] = Unit {0}
-Numbered (r ∷ rows) = ((k : ℕ) × (r .number ≡ suc k)) × Numbered rows
-
-module _ (a : Answer) (passes : isRefused a ≡ false) where
-  first-is : (rows : List Row) → Numbered rows → (n : ℕ) → answer (first rows) a ≡ refused n → FirstIs rows n
-  unfolding isRefused refusedBy
-  first-is [] ns n e = absurd (false≢true (sym passes ∙ ap isRefused e))
-  first-is (r ∷ rows) ns n e = pick (first-is rows (ns .1) n) (r .applies) refl e
-    where
-      pick : (answer (first rows) a ≡ refused n → FirstIs rows n) → (b : Bool) → r .applies ≡ b → answer (cond b (r .number) (first rows)) a ≡ refused n → FirstIs (r ∷ rows) n
-      pick ih true t e =
-          let is : refused (r .number) ≡ answer (r .number) a = rw (ns .0 .1) in
-          subst (FirstIs (r ∷ rows)) (ap refusedBy (is ∙ e)) (this r rows t)
-      pick ih false t e = later r rows n t (ih e)
-
-module _ (a : Answer) where
-  is-first : (rows : List Row) → Numbered rows → (n : ℕ) → FirstIs rows n → answer (first rows) a ≡ refused n
-  is-first _ ns _ (this r rows t) = rw (t, ns .0 .1)
-  is-first _ ns _ (later r rows n t rest) = rw t (is-first rows (ns .1) n rest)
-
-  none-is : (rows : List Row) → NoneApplies rows → answer (first rows) a ≡ a
-  none-is _ no-row = refl
-  none-is _ (not-this r rows t rest) = rw t (none-is rows rest)
-
-  is-none : (rows : List Row) → Numbered rows → ((n : ℕ) → answer (first rows) a ≡ refused n → ⊥) → NoneApplies rows
-  is-none [] ns not-refused = no-row
-  is-none (r ∷ rows) ns not-refused = pick (is-none rows (ns .1)) (r .applies) refl not-refused
-    where
-      pick : (((n : ℕ) → answer (first rows) a ≡ refused n → ⊥) → NoneApplies rows) → (b : Bool) → r .applies ≡ b
-          → ((n : ℕ) → answer (cond b (r .number) (first rows)) a ≡ refused n → ⊥) → NoneApplies (r ∷ rows)
-      pick ih true t never = absurd (never (r .number) (rw (ns .0 .1)))
-      pick ih false t never = not-this r rows t (ih never)
-
 -- ---- the first claim
 
 numbered : (s : List ℕ) → Numbered (checks s)
 numbered s = ((2, refl), ((3, refl), ((4, refl), ((5, refl), ((6, refl), ((7, refl), ((8, refl), ((9, refl), tt))))))))
 
-found-passes : (q base : ℕ) (c : Option EdnsOption) → isRefused (found q base c) ≡ false
+found-passes : (q base : ℕ) (c : Option EdnsOption) (n : ℕ) → found q base c ≡ refused n → ⊥
 unfolding isRefused
-found-passes q base none = refl
-found-passes q base (some o) = refl
+found-passes q base none n e = false≢true (ap isRefused e)
+found-passes q base (some o) n e = false≢true (ap isRefused e)
 
 pub first-is-given : TheFirstIsGiven
-unfolding request isRefused
+unfolding request refusedBy
 first-is-given s =
-    let passes : isRefused (foundIn s) ≡ false = found-passes (qdcount s) (startOf (optsIn s)) (cookieOf s) in
+    let passes : (n : ℕ) → foundIn s ≡ refused n → ⊥ = found-passes (qdcount s) (startOf (optsIn s)) (cookieOf s) in
     record {
-      refused-when = first-is (foundIn s) passes (checks s) (numbered s);
-      when-refused = is-first (foundIn s) (checks s) (numbered s);
-      passed-when = is-none (foundIn s) (checks s) (numbered s);
-      when-passed = λ nothing n e. false≢true (sym passes ∙ ap isRefused (sym (none-is (foundIn s) (checks s) nothing) ∙ e));
+      refused-when = first-is refused (foundIn s) refusedBy (λ n. refl) passes (checks s) (numbered s);
+      when-refused = is-first refused (foundIn s) (checks s) (numbered s);
+      passed-when = is-none refused (foundIn s) (checks s) (numbered s);
+      when-passed = λ nothing n e. passes n (sym (none-is refused (foundIn s) (checks s) nothing) ∙ e);
     }
 
 -- ---- what it means that a check does not apply
-
-this-not : (r : Row) (rows : List Row) → NoneApplies (r ∷ rows) → r .applies ≡ false
-this-not _ _ (not-this r rows t rest) = t
-
-none-behind : (r : Row) (rows : List Row) → NoneApplies (r ∷ rows) → NoneApplies rows
-none-behind _ _ (not-this r rows t rest) = rest
 
 or-parts : (a b : Bool) → (a || b) ≡ false → (a ≡ false) × (b ≡ false)
 or-parts true b e = absurd (true≢false e)
@@ -105,13 +64,9 @@ not-false : (b : Bool) → not b ≡ false → b ≡ true
 not-false true e = refl
 not-false false e = absurd (true≢false e)
 
-is-some : {A : Type 0} (x : Option A) → message.isNone x ≡ false → (a : A) × (x ≡ some a)
+is-some : {A : Type 0} (x : Option A) → isNone x ≡ false → (a : A) × (x ≡ some a)
 is-some none e = absurd (true≢false e)
 is-some (some a) e = (a, refl)
-
-not-past : (x : Option (List EdnsOption)) → isPast x ≡ false → (os : List EdnsOption) × (x ≡ some os)
-not-past none e = absurd (true≢false e)
-not-past (some os) e = (os, refl)
 
 no-any : (rs : List Record) → isAny rs ≡ false → rs ≡ []
 no-any [] e = refl
@@ -144,7 +99,7 @@ Told s (noCookie q) = (q ≡ qdcount s) × WithoutCookie s
 Told s (cookie q a e) = (q ≡ qdcount s) × TheCookie s a e
 
 module _ (s : List ℕ) (all : List Record) (opt : Record) (the-opt : TheOpt s all opt) (os : List EdnsOption) (listed : options (dataOf s opt) ≡ some os) where
-  told-cookie : (c : Option EdnsOption) → Split os c → SomeInside (length (dataOf s opt)) c → Told s (found (qdcount s) (opt .start) c)
+  told-cookie : (c : Option EdnsOption) → Split os c → IfOne (BodyInside (length (dataOf s opt))) c → Told s (found (qdcount s) (opt .start) c)
   told-cookie none is i = (refl, no-option all opt the-opt os listed is)
   told-cookie (some o) is i =
       let o-ordered : o .start ≤ o .end = i .ordered in
@@ -170,15 +125,15 @@ module _ (s : List ℕ) (all : List Record) (opt : Record) (the-opt : TheOpt s a
 
 module _ (s : List ℕ) where
   abbrev foundFrom : List Record → Answer
-  foundFrom os = found (qdcount s) (startOf os) (firstCookie (edns.listed (options (optData s os))))
+  foundFrom os = found (qdcount s) (startOf os) (firstCookie (optionsOf (optData s os)))
 
   told-opts : (all : List Record) → sections s ≡ some all → opts (take (ancount s + nscount s) all) ≡ [] → (os : List Record) → opts all ≡ os
-      → anyForeign os ≡ false → isSecond os ≡ false → not (eqb (versionOf os) 0) ≡ false → isPast (options (optData s os)) ≡ false → AllInside (length s) os
+      → anyForeign os ≡ false → isSecond os ≡ false → not (eqb (versionOf os) 0) ≡ false → optionPast (optData s os) ≡ false → Each (DataInside (length s)) os
       → Told s (foundFrom os)
   unfolding optionsFrom optionsIn firstCookie
   told-opts all sectioned before [] is owned single version whole inside = (refl, no-opt all sectioned is)
   told-opts all sectioned before (r ∷ []) is owned single version whole inside =
-      let one : (os : List EdnsOption) × (options (dataOf s r) ≡ some os) = not-past (options (dataOf s r)) whole in
+      let one : (os : List EdnsOption) × (options (dataOf s r) ≡ some os) = is-some (options (dataOf s r)) whole in
       let the-opt : TheOpt s all r = record {
         sectioned = sectioned;
         only = is;
@@ -188,9 +143,9 @@ module _ (s : List ℕ) where
         ordered = inside .0 .ordered;
         inside = inside .0 .within;
       } in
-      let cookie-is : firstCookie (edns.listed (options (dataOf s r))) ≡ firstCookie (one .0) = ap (λ (x : Option (List EdnsOption)). firstCookie (edns.listed x)) (one .1) in
+      let cookie-is : firstCookie (optionsOf (dataOf s r)) ≡ firstCookie (one .0) = ap (λ (x : Option (List EdnsOption)). firstCookie (Option·getD x [])) (one .1) in
       subst (λ (c : Option EdnsOption). Told s (found (qdcount s) (r .start) c)) (sym cookie-is)
-      (told-cookie s all r the-opt (one .0) (one .1) (firstCookie (one .0)) (split (one .0)) (subst (SomeInside (length (dataOf s r))) cookie-is (cookie-within (dataOf s r))))
+      (told-cookie s all r the-opt (one .0) (one .1) (firstCookie (one .0)) (split (one .0)) (subst (IfOne (BodyInside (length (dataOf s r)))) cookie-is (cookie-within (dataOf s r))))
   told-opts all sectioned before (r ∷ q ∷ rs) is owned single version whole inside = absurd (true≢false single)
 
   -- rows 3 to 5, then 6, 7, 8 and 9, by what they say
@@ -202,7 +157,7 @@ module _ (s : List ℕ) where
       let from-8 = none-behind _ _ from-7 in
       let from-9 = none-behind _ _ from-8 in
       let one : (all : List Record) × (sections s ≡ some all) = is-some (sections s) (this-not _ _ from-6) in
-      let listed-is : message.listed (sections s) ≡ one .0 = ap message.listed (one .1) in
+      let listed-is : recordsOf s ≡ one .0 = ap (λ (x : Option (List Record)). Option·getD x []) (one .1) in
       let seven : wrongAmong (ancount s + nscount s) (one .0) ≡ false = subst (λ (rs : List Record). wrongAmong (ancount s + nscount s) rs ≡ false) listed-is (this-not _ _ from-7) in
       let seven-parts = or-parts (isAny (opts (take (ancount s + nscount s) (one .0))) || anyForeign (opts (one .0))) (isSecond (opts (one .0))) seven in
       let placed-owned = or-parts (isAny (opts (take (ancount s + nscount s) (one .0)))) (anyForeign (opts (one .0))) (seven-parts .0) in
@@ -210,8 +165,8 @@ module _ (s : List ℕ) where
       subst (λ (os : List Record). Told s (foundFrom os)) (sym opts-are)
       (told-opts (one .0) (one .1) (no-any (opts (take (ancount s + nscount s) (one .0))) (placed-owned .0)) (opts (one .0)) refl (placed-owned .1) (seven-parts .1)
       (subst (λ (os : List Record). not (eqb (versionOf os) 0) ≡ false) opts-are (this-not _ _ from-8))
-      (subst (λ (os : List Record). isPast (options (optData s os)) ≡ false) opts-are (this-not _ _ from-9))
-      (subst (AllInside (length s)) opts-are (opts-within s)))
+      (subst (λ (os : List Record). optionPast (optData s os) ≡ false) opts-are (this-not _ _ from-9))
+      (subst (Each (DataInside (length s))) opts-are (opts-within s)))
 
   -- an answer that is no refusal is what was found
   passed : (a : Answer) → isRefused a ≡ false → request s ≡ a → NoneApplies (checks s)
@@ -220,7 +175,7 @@ module _ (s : List ℕ) where
 
   told-of : (a : Answer) → isRefused a ≡ false → request s ≡ a → Told s a
   unfolding request
-  told-of a passes e = let nothing = passed a passes e in subst (Told s) (sym (none-is (foundIn s) (checks s) nothing) ∙ e) (told nothing)
+  told-of a passes e = let nothing = passed a passes e in subst (Told s) (sym (none-is refused (foundIn s) (checks s) nothing) ∙ e) (told nothing)
 
 pub first-is-found : TheFirstIsFound
 unfolding isRefused cookieBody

@@ -3,13 +3,13 @@ use Prim.Native.Nat.{ℕ, _+_, _-_, _≤_, _<_}
 use mathlib.Core.Path.{_≡_, refl, sym, _∙_}
 use mathlib.Core.Bool.{Bool, true, false, not, or-true}
 use mathlib.Core.List.{List, [], _∷_}
-use mathlib.Core.Option.{Option, none, some}
+use mathlib.Core.Option.{Option, none, some, Option·getD}
 use native.Mathlib.Omega.{arith}
 use borrow.Author.Tests.{lt-ltb, le-ltb, le-leb, lt-leb, eq-eqb, ne-eqb}
 use lib.Dec.{eqb}
 use lib.ListN.{length, drop, getD, length-drop}
-use Rattle.octets.specs.Refusals.{_when_, first}
-use Rattle.edns.specs.Options.{options, optionsFrom, optionsIn, isPast, firstCookie, isCookieLength, place, cookieIn}
+use Rattle.octets.specs.Refusals.{_when_, first, answered, isNone}
+use Rattle.edns.specs.Options.{options, optionsFrom, optionsIn, optionsOf, optionPast, firstCookie, isCookieLength, place, cookieIn}
 use Rattle.edns.specs.Options as edns
 use Rattle.edns.specs.declared.EdnsOption.{EdnsOption}
 use Rattle.message.specs.Message.{qdcount, malformed, wrongOpt, firstOpt, outline}
@@ -25,41 +25,41 @@ use Rattle.edns.specs.declared.Listing.{Listing}
 use Rattle.edns.specs.declared.Listing.the-variants.{Past, NoCookie, First}
 use Rattle.edns.proofs.Within.{cookie-inside}
 use lib.Seq.{length-take-le}
-use Rattle.request.specs.Request.{optsIn, dataOf, optData, versionOf, isIllegal, manyQuestions, Answer, refused, noCookie, cookie, startOf, found, answer, request}
+use Rattle.request.specs.Request.{optsIn, dataOf, optData, versionOf, isIllegal, manyQuestions, Answer, refused, noCookie, cookie, startOf, found, request}
 use Rattle.request.specs.Rest.{afterCookie, afterList, afterOpt, afterOutline, afterHead}
 
 -- ---- what is left behind each step is what the checks say
 
 module _ (q base : ℕ) where
-  from-cookie : (c : Option EdnsOption) → answer (first (10 when isIllegal c ∷ [])) (found q base c) ≡ afterList q base (place c)
+  from-cookie : (c : Option EdnsOption) → answered refused (first (10 when isIllegal c ∷ [])) (found q base c) ≡ afterList q base (place c)
   from-cookie none = refl
   from-cookie (some o) = refl
 
   from-list : (x : Option (List EdnsOption))
-      → answer (first (9 when isPast x ∷ 10 when isIllegal (firstCookie (edns.listed x)) ∷ [])) (found q base (firstCookie (edns.listed x)))
-      ≡ afterList q base (edns.unlessRefused (first (9 when isPast x ∷ [])) (place (firstCookie (edns.listed x))))
+      → answered refused (first (9 when isNone x ∷ 10 when isIllegal (firstCookie (Option·getD x [])) ∷ [])) (found q base (firstCookie (Option·getD x [])))
+      ≡ afterList q base (answered edns.refused (first (9 when isNone x ∷ [])) (place (firstCookie (Option·getD x []))))
   from-list none = refl
   from-list (some os) = from-cookie (firstCookie os)
 
   -- over whether the version is wrong, and the options
   from-opt : (wrong : Bool) (x : Option (List EdnsOption))
-      → answer (first (8 when wrong ∷ 9 when isPast x ∷ 10 when isIllegal (firstCookie (edns.listed x)) ∷ [])) (found q base (firstCookie (edns.listed x)))
-      ≡ answer (first (8 when wrong ∷ [])) (afterList q base (edns.unlessRefused (first (9 when isPast x ∷ [])) (place (firstCookie (edns.listed x)))))
+      → answered refused (first (8 when wrong ∷ 9 when isNone x ∷ 10 when isIllegal (firstCookie (Option·getD x [])) ∷ [])) (found q base (firstCookie (Option·getD x [])))
+      ≡ answered refused (first (8 when wrong ∷ [])) (afterList q base (answered edns.refused (first (9 when isNone x ∷ [])) (place (firstCookie (Option·getD x [])))))
   from-opt true x = refl
   from-opt false x = from-list x
 
 -- over checks 6 and 7, and the OPTs
 from-outline : (s : List ℕ) (q : ℕ) (six seven : Bool) (os : List Record)
-    → answer
+    → answered refused
     (first
     (6 when six
     ∷ 7 when seven
     ∷ 8 when not (eqb (versionOf os) 0)
-    ∷ 9 when isPast (options (optData s os))
-    ∷ 10 when isIllegal (firstCookie (edns.listed (options (optData s os))))
+    ∷ 9 when optionPast (optData s os)
+    ∷ 10 when isIllegal (firstCookie (optionsOf (optData s os)))
     ∷ []))
-    (found q (startOf os) (firstCookie (edns.listed (options (optData s os)))))
-    ≡ afterOutline s q (message.unlessRefused (first (6 when six ∷ 7 when seven ∷ [])) (firstOpt os))
+    (found q (startOf os) (firstCookie (optionsOf (optData s os))))
+    ≡ afterOutline s q (answered message.refused (first (6 when six ∷ 7 when seven ∷ [])) (firstOpt os))
 unfolding cookieIn optionsFrom optionsIn firstCookie
 from-outline s q true seven os = refl
 from-outline s q false true os = refl

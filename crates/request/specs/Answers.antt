@@ -6,6 +6,7 @@ use Rattle.request.specs.declared.Reading.the-variants as reading-as
 use Rattle.request.specs.declared.Refusal.{Refusal}
 use Rattle.request.specs.declared.Refusal.the-variants.{Size, Response, Questions, Malformed, WrongOpt, Version, OptionPast, CookieLength}
 
+-- document 01's numbers
 abbrev pub refusalNumber : Refusal → ℕ
 refusalNumber Size = 3
 refusalNumber Response = 4
@@ -16,6 +17,7 @@ refusalNumber Version = 8
 refusalNumber OptionPast = 9
 refusalNumber CookieLength = 10
 
+-- what `read` answers
 abbrev pub answerOf : Reading → Answer
 answerOf (reading-as.Refused refusal) = refused (refusalNumber refusal)
 answerOf (reading-as.NoCookie q) = noCookie q

@@ -2,11 +2,11 @@
 -- first COOKIE option of the one OPT. Assumes nothing.
 use Prim.Native.Nat.{ℕ, _+_, _-_, _≤_}
 use mathlib.Core.Path.{_≡_}
-use mathlib.Core.Bool.{true, false}
+use mathlib.Core.Bool.{true}
 use mathlib.Core.List.{List, [], _∷_, _++_}
 use mathlib.Core.Option.{some}
 use lib.ListN.{length, take, drop}
-use Rattle.octets.specs.Refusals.{Row}
+use Rattle.octets.specs.Refusals.{FirstIs, NoneApplies}
 use Rattle.edns.specs.Options.{options}
 use Rattle.edns.specs.declared.EdnsOption.{EdnsOption}
 use Rattle.message.specs.Message.{qdcount, ancount, nscount, sections, opts}
@@ -15,16 +15,6 @@ use Rattle.request.specs.Request.{dataOf, checks, refused, noCookie, coo
 
 -- ---- the first that applies
 
--- of these rows, the first that applies has this number
-pub data FirstIs : List Row → ℕ → Type 0 where
-  this : (r : Row) (rows : List Row) → r .applies ≡ true → FirstIs (r ∷ rows) (r .number)
-  later : (r : Row) (rows : List Row) (n : ℕ) → r .applies ≡ false → FirstIs rows n → FirstIs (r ∷ rows) n
-
--- none of them applies
-pub data NoneApplies : List Row → Type 0 where
-  no-row : NoneApplies []
-  not-this : (r : Row) (rows : List Row) → r .applies ≡ false → NoneApplies rows → NoneApplies (r ∷ rows)
-
 -- the claim: a request is refused by a number exactly when that is the first row of the table that applies, and by none exactly when none does
 pub record FirstThatApplies (s : List ℕ) : Type 0 where
   pub refused-when : (n : ℕ) → request s ≡ refused n → FirstIs (checks s) n
@@ -32,6 +22,7 @@ pub record FirstThatApplies (s : List ℕ) : Type 0 where
   pub passed-when : ((n : ℕ) → request s ≡ refused n → ⊥) → NoneApplies (checks s)
   pub when-passed : NoneApplies (checks s) → (n : ℕ) → request s ≡ refused n → ⊥
 
+-- for every message
 abbrev pub TheFirstIsGiven : Type 0
 TheFirstIsGiven = (s : List ℕ) → FirstThatApplies s
 
@@ -81,5 +72,6 @@ pub record FoundIsTheFirst (s : List ℕ) : Type 0 where
   pub no-part : (q : ℕ) → request s ≡ noCookie q → cookieBody s ≡ []
   pub no-part-refused : (n : ℕ) → request s ≡ refused n → cookieBody s ≡ []
 
+-- for every message
 abbrev pub TheFirstIsFound : Type 0
 TheFirstIsFound = (s : List ℕ) → FoundIsTheFirst s

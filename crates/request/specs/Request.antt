@@ -1,40 +1,35 @@
 -- Reading a request: document 01, "Reading a request" and "Answer numbers for a request", checks 3 to 10. Each check is a predicate on the whole message, and
 -- `checks` is their order. A predicate says something of every list of bytes, also where an earlier check refuses it. Assumes nothing.
-use Prim.Native.Nat.{ℕ, zero, suc, _+_, _-_}
+use Prim.Native.Nat.{ℕ, _+_, _-_}
 use mathlib.Core.Bool.{Bool, false, not, _||_}
 use mathlib.Core.List.{List, [], _∷_, _++_}
 use mathlib.Core.Option.{Option, none, some}
 use lib.Dec.{eqb, leb, ltb}
 use lib.ListN.{length, take, drop, getD}
-use Rattle.octets.specs.Refusals.{Row, _when_, first}
-use Rattle.edns.specs.Options.{options, isPast, firstCookie, isCookieLength}
-use Rattle.edns.specs.Options as edns
+use Rattle.octets.specs.Refusals.{Row, _when_, first, answered}
+use Rattle.edns.specs.Options.{optionsOf, optionPast, firstCookie, isCookieLength}
 use Rattle.edns.specs.declared.EdnsOption.{EdnsOption}
-use Rattle.message.specs.Message.{qdcount, sections, malformed, opts, wrongOpt}
-use Rattle.message.specs.Message as message
+use Rattle.message.specs.Message.{qdcount, recordsOf, malformed, opts, wrongOpt}
 use Rattle.message.specs.declared.Record.{Record}
 
 -- ---- what a message holds
 
 -- its OPT records. Where check 7 does not apply there is at most one
 abbrev pub optsIn : List ℕ → List Record
-optsIn s = opts (message.listed (sections s))
+optsIn s = opts (recordsOf s)
 
 -- a record's data: a part of the message
 abbrev pub dataOf : List ℕ → Record → List ℕ
 dataOf s r = take (r .end - r .start) (drop (r .start) s)
 
+-- the data of its OPT, empty if it has none
 abbrev pub optData : List ℕ → List Record → List ℕ
 optData s [] = []
 optData s (r ∷ rs) = dataOf s r
 
--- the options of its OPT
-abbrev pub optionsOf : List ℕ → Option (List EdnsOption)
-optionsOf s = options (optData s (optsIn s))
-
 -- its first COOKIE option
 abbrev pub cookieOf : List ℕ → Option EdnsOption
-cookieOf s = firstCookie (edns.listed (optionsOf s))
+cookieOf s = firstCookie (optionsOf (optData s (optsIn s)))
 
 -- ---- the checks
 
@@ -52,6 +47,7 @@ manyQuestions s = ltb 1 (qdcount s)
 
 -- 6 and 7, `malformed` and `wrongOpt`, stand in message/specs/Message.antt
 
+-- no OPT has no version that could be wrong
 abbrev pub versionOf : List Record → ℕ
 versionOf [] = 0
 versionOf (r ∷ rs) = r .version
@@ -60,10 +56,9 @@ versionOf (r ∷ rs) = r .version
 abbrev pub wrongVersion : List ℕ → Bool
 wrongVersion s = not (eqb (versionOf (optsIn s)) 0)
 
--- 9: an option past the OPT data
-abbrev pub optionPast : List ℕ → Bool
-optionPast s = isPast (optionsOf s)
+-- 9, `optionPast`, stands in edns/specs/Options.antt
 
+-- a body that is not 8 bytes, nor 16 to 40
 abbrev pub isIllegal : Option EdnsOption → Bool
 isIllegal none = false
 isIllegal (some o) = not (isCookieLength (o .end - o .start))
@@ -88,10 +83,11 @@ restChecks s =
     ∷ 6 when malformed s
     ∷ 7 when wrongOpt s
     ∷ 8 when wrongVersion s
-    ∷ 9 when optionPast s
+    ∷ 9 when optionPast (optData s (optsIn s))
     ∷ 10 when wrongCookie s
     ∷ []
 
+-- all of them
 abbrev pub checks : List ℕ → List Row
 checks s = headChecks s ++ restChecks s
 
@@ -108,6 +104,7 @@ abbrev pub startOf : List Record → ℕ
 startOf [] = 0
 startOf (r ∷ rs) = r .start
 
+-- what is told of a COOKIE option, or of none
 abbrev pub found : ℕ → ℕ → Option EdnsOption → Answer
 found q start none = noCookie q
 found q start (some o) = cookie q (start + o .start) (start + o .end)
@@ -116,16 +113,13 @@ found q start (some o) = cookie q (start + o .start) (start + o .end)
 abbrev pub foundIn : List ℕ → Answer
 foundIn s = found (qdcount s) (startOf (optsIn s)) (cookieOf s)
 
-abbrev pub answer : ℕ → Answer → Answer
-answer zero a = a
-answer (suc n) a = refused (suc n)
-
 -- the first check that applies, and otherwise what is found
 unfoldable pub request : List ℕ → Answer
-request s = answer (first (checks s)) (foundIn s)
+request s = answered refused (first (checks s)) (foundIn s)
 
 -- ---- the finder
 
+-- the part of the message that an answer tells of
 abbrev pub bodyAt : List ℕ → Answer → List ℕ
 bodyAt s (refused n) = []
 bodyAt s (noCookie q) = []

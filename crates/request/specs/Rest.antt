@@ -3,16 +3,16 @@ use Prim.Native.Nat.{ℕ, _+_, _-_}
 use mathlib.Core.Bool.{not}
 use mathlib.Core.List.{List, [], _∷_}
 use lib.Dec.{eqb}
-use Rattle.octets.specs.Refusals.{_when_, first}
+use Rattle.octets.specs.Refusals.{_when_, first, answered}
 use Rattle.edns.specs.Options.{cookieIn, isCookieLength}
 use Rattle.edns.specs.Options as edns
 use Rattle.message.specs.Message as message
 use Rattle.message.specs.declared.Record.{Record}
-use Rattle.request.specs.Request.{Answer, refused, noCookie, cookie, answer, dataOf, restChecks, foundIn}
+use Rattle.request.specs.Request.{Answer, refused, noCookie, cookie, dataOf, restChecks, foundIn}
 
 -- check 10
 abbrev pub afterCookie : ℕ → ℕ → ℕ → ℕ → Answer
-afterCookie q base start end = answer (first (10 when not (isCookieLength (end - start)) ∷ [])) (cookie q (base + start) (base + end))
+afterCookie q base start end = answered refused (first (10 when not (isCookieLength (end - start)) ∷ [])) (cookie q (base + start) (base + end))
 
 -- behind the options
 abbrev pub afterList : ℕ → ℕ → edns.Listed → Answer
@@ -22,7 +22,7 @@ afterList q base (edns.cookie start end) = afterCookie q base start end
 
 -- checks 8 to 10 on the OPT
 abbrev pub afterOpt : List ℕ → ℕ → Record → Answer
-afterOpt s q r = answer (first (8 when not (eqb (r .version) 0) ∷ [])) (afterList q (r .start) (cookieIn (dataOf s r)))
+afterOpt s q r = answered refused (first (8 when not (eqb (r .version) 0) ∷ [])) (afterList q (r .start) (cookieIn (dataOf s r)))
 
 -- behind the records
 abbrev pub afterOutline : List ℕ → ℕ → message.Outlined → Answer
@@ -32,4 +32,4 @@ afterOutline s q (message.theOpt r) = afterOpt s q r
 
 -- checks 5 to 10 on a message
 unfoldable pub afterHead : List ℕ → Answer
-afterHead s = answer (first (restChecks s)) (foundIn s)
+afterHead s = answered refused (first (restChecks s)) (foundIn s)
