@@ -1,4 +1,5 @@
 pub mod Cases
+pub mod GrammarLaws
 pub mod LengthLaws
 pub mod OptionLaws
 pub mod Within

@@ -1,4 +1,5 @@
 pub mod Cases
+pub mod GrammarLaws
 pub mod MessageLaws
 pub mod NameLaws
 pub mod RecordLaws

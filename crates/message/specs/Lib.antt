@@ -1,5 +1,6 @@
 pub mod Answers
 pub mod Cases
+pub mod Grammar
 pub mod Message
 pub mod Name
 pub mod Record

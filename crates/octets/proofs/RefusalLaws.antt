@@ -1,9 +1,10 @@
 -- A table of refusals in words: the first row that applies, and that none does. Stated over any kind of answer. Assumes nothing.
 use Prim.Native.Nat.{ℕ, suc}
 use mathlib.Core.Path.{_≡_, refl, sym, ap, subst, _∙_}
-use mathlib.Core.Bool.{Bool, true, false, cond}
+use mathlib.Core.Bool.{Bool, true, false, cond, true≢false}
 use mathlib.Core.List.{List, [], _∷_}
-use Rattle.octets.specs.Refusals.{Row, first, answered, FirstIs, this, later, NoneApplies, no-row, not-this}
+use mathlib.Core.Option.{Option, none, some}
+use Rattle.octets.specs.Refusals.{Row, first, answered, isNone, FirstIs, this, later, NoneApplies, no-row, not-this}
 
 -- every number is one from 1 on, so that none is taken for "no refusal"
 abbrev pub Numbered : List Row → Type 0
@@ -47,3 +48,8 @@ this-not _ _ (not-this r rows t rest) = t
 
 pub none-behind : (r : Row) (rows : List Row) → NoneApplies (r ∷ rows) → NoneApplies rows
 none-behind _ _ (not-this r rows t rest) = rest
+
+-- what a row says is there
+pub is-some : {A : Type 0} (x : Option A) → isNone x ≡ false → (a : A) × (x ≡ some a)
+is-some none e = absurd (true≢false e)
+is-some (some a) e = (a, refl)

@@ -9,9 +9,9 @@ use borrow.Author.Tests.{eqb-true, eq-eqb}
 use lib.Dec.{eqb}
 use lib.ListN.{length, take, drop, length-drop}
 use lib.Seq.{length-take-le}
-use Rattle.octets.specs.Refusals.{isNone, NoneApplies}
+use Rattle.octets.specs.Refusals.{NoneApplies}
 use Rattle.octets.proofs.EachLaws.{Each, IfOne}
-use Rattle.octets.proofs.RefusalLaws.{Numbered, is-first, none-is, is-none, first-is, this-not, none-behind}
+use Rattle.octets.proofs.RefusalLaws.{Numbered, is-first, none-is, is-none, first-is, this-not, none-behind, is-some}
 use Rattle.edns.proofs.Within.{BodyInside, cookie-within}
 use Rattle.edns.specs.Options.{options, optionsFrom, optionsIn, optionsOf, optionPast, isCookie, firstCookie}
 use Rattle.edns.specs.declared.EdnsOption.{EdnsOption}
@@ -63,10 +63,6 @@ or-parts false b e = (refl, e)
 not-false : (b : Bool) → not b ≡ false → b ≡ true
 not-false true e = refl
 not-false false e = absurd (true≢false e)
-
-is-some : {A : Type 0} (x : Option A) → isNone x ≡ false → (a : A) × (x ≡ some a)
-is-some none e = absurd (true≢false e)
-is-some (some a) e = (a, refl)
 
 no-any : (rs : List Record) → isAny rs ≡ false → rs ≡ []
 no-any [] e = refl
