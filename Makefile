@@ -6,27 +6,34 @@ SEED = 1
 .PHONY: run test build differential bench
 
 # Runs the compiled code on vectors, the stored ones or those of a file: make run VECTORS=file
-run: build
+run: build-vectors
 	@target/bin/vectors <$(VECTORS)
 
 # The gate.
 test:
 	@.ci/run
 
-build:
+build: build-vectors build-read_requests
+
+build-%:
 	@mkdir -p target
-	@rt check vectors >target/build.log 2>&1 || { cat target/build.log; exit 1; }
+	@rt check $* >target/$*.log 2>&1 || { cat target/$*.log; exit 1; }
 
-# The stored output, and COUNT random lines from SEED, against an independent implementation; then how often each kind of answer
-# came: a 0 there is an answer that the lines never reached.
+# A program's stored output, and COUNT random lines from SEED, against an independent implementation; then how often each kind of
+# answer came: a 0 there is an answer that the lines never reached.
+define compare
+	tests/$(2) <crates/$(1)/stdin | cmp - crates/$(1)/stdout
+	tests/$(2) --random $(COUNT) --seed $(SEED) >target/lines
+	target/bin/$(1) <target/lines >target/got
+	tests/$(2) <target/lines | cmp - target/got
+	@tests/$(2) --tally <target/got
+	@echo "$(1), $(COUNT) lines from seed $(SEED): the same output"
+endef
+
 differential: build
-	tests/expected.py <crates/vectors/stdin | cmp - crates/vectors/stdout
-	tests/expected.py --random $(COUNT) --seed $(SEED) >target/lines
-	target/bin/vectors <target/lines >target/got
-	tests/expected.py <target/lines | cmp - target/got
-	@tests/expected.py --tally <target/got
-	@echo "$(COUNT) lines from seed $(SEED): the same output"
+	$(call compare,vectors,expected.py)
+	$(call compare,read_requests,requests.py)
 
-# Times against plain C, and those of cookies against libknot where it is installed, in turns.
+# Times against plain C, and those of cookies and requests against libknot where it is installed, in turns.
 bench:
 	@bench/run

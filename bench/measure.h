@@ -1,4 +1,4 @@
-// What both measurements need: a clock, and numbers that are the same in every run.
+// What the measurements need: a clock, and numbers that are the same in every run.
 #include <stdint.h>
 #include <stdio.h>
 #include <stdlib.h>

@@ -1,7 +1,7 @@
 -- Options one at a time, with no count of turns, and the first COOKIE option among them. Assumes nothing.
 use Prim.Native.Nat.{ℕ, zero, suc, _+_, _-_, _≤_, _<_}
 use mathlib.Core.Path.{_≡_, refl, sym, ap, _∙_}
-use mathlib.Core.Bool.{Bool, true, false, cond}
+use mathlib.Core.Bool.{Bool, true, false, not, cond}
 use mathlib.Core.List.{List, [], _∷_}
 use mathlib.Core.Option.{Option, none, some, bind, Option·none-ne-some, Option·some-injective, Option·getD}
 use native.Mathlib.Decide.{decLe}
@@ -11,38 +11,36 @@ use lib.Dec.{leb}
 use lib.ListN.{length, getD}
 use Rattle.octets.specs.Numbers.{beNumber, be16At}
 use Rattle.octets.specs.Refusals.{_when_, first, answered, isNone}
-use Rattle.edns.specs.Answers.{foundOf, listingOf}
-use Rattle.edns.specs.Options.{fields, optionAt, optionsIn, optionsFrom, options, isCookie, firstCookie, refused, place, cookieIn}
-use Rattle.edns.specs.Scan.{withCookie, withOption, withOptions, scan}
+use Rattle.edns.specs.Answers.{foundOf}
+use Rattle.edns.specs.Options.{fields, optionAt, optionsIn, optionsFrom, isCookie, firstCookie, Listed, refused, noCookie, cookie, place, cookieIn}
 use Rattle.edns.specs.declared.EdnsOption.{EdnsOption}
 use Rattle.edns.specs.declared.Found.{Found}
-use Rattle.edns.specs.declared.Found.the-variants as found-as
-use Rattle.edns.specs.declared.Listing.{Listing}
-use Rattle.edns.specs.declared.Listing.the-variants.{Past, NoCookie, First}
+use Rattle.edns.specs.declared.Found.the-variants.{Inside, Past}
 
 -- ---- one option
 
 module _ (d : List ℕ) (at : ℕ) where
-  pub option-short : length d < 4 → none ≡ optionAt d at
+  pub option-none : length d ≤ at → none ≡ optionAt d at
   unfolding optionAt
-  option-short l = simp (lt-leb (at + 4 + be16At d (at + 2)) (length d) (omega arith))
+  option-none past = simp (lt-leb (at + 4 + be16At d (at + 2)) (length d) (omega arith))
 
-  pub option-cut : 4 ≤ length d → length d - 4 < at → none ≡ optionAt d at
+  pub option-cut : length d < at + 4 → none ≡ optionAt d at
   unfolding optionAt
-  option-cut l m = simp (lt-leb (at + 4 + be16At d (at + 2)) (length d) (omega arith))
+  option-cut cut = simp (lt-leb (at + 4 + be16At d (at + 2)) (length d) (omega arith))
 
-  module _ (size : ℕ) (read : size ≡ beNumber (getD d (at + 2) 0 ∷ getD d (at + 3) 0 ∷ [])) (long : 4 ≤ length d) (here : at ≤ length d - 4) where
-    size-is : size ≡ be16At d (at + 2)
-    size-is = read ∙ ap (λ (i : ℕ). beNumber (getD d (at + 2) 0 ∷ getD d i 0 ∷ [])) (omega arith)
+  -- where the body ends, as the code works it out
+  module _ (end : ℕ) (worked-out : end ≡ at + 4 + be16At d (at + 4 - 2)) where
+    end-is : end ≡ at + 4 + be16At d (at + 2)
+    end-is = let at-2 : at + 4 - 2 ≡ at + 2 = omega arith in worked-out ∙ ap (λ (i : ℕ). at + 4 + be16At d i) at-2
 
-    pub option-past : length d - 4 - at < size → none ≡ optionAt d at
+    pub option-past : length d < end → none ≡ optionAt d at
     unfolding optionAt
-    option-past m = simp (lt-leb (at + 4 + be16At d (at + 2)) (length d) (omega (arith, size-is)))
+    option-past past = simp (lt-leb (at + 4 + be16At d (at + 2)) (length d) (omega (arith, end-is)))
 
-    pub option-whole : size ≤ length d - 4 - at → (code : ℕ) → code ≡ beNumber (getD d at 0 ∷ getD d (at + 1) 0 ∷ [])
-        → some (record { code = code; start = at + 4; end = at + 4 + size }) ≡ optionAt d at
+    pub option-whole : end ≤ length d → (code : ℕ) → code ≡ beNumber (getD d at 0 ∷ getD d (at + 1) 0 ∷ [])
+        → some (record { code = code; start = at + 4; end = end }) ≡ optionAt d at
     unfolding optionAt
-    option-whole m code coded = rw (coded, size-is) (simp (le-leb (at + 4 + be16At d (at + 2)) (length d) (omega (arith, size-is))))
+    option-whole inside code coded = rw (coded, end-is) (simp (le-leb (at + 4 + be16At d (at + 2)) (length d) (omega (arith, end-is))))
 
 -- where an option lies
 pub record Lies (d : List ℕ) (at : ℕ) (o : EdnsOption) : Type 0 where
@@ -93,76 +91,82 @@ pub options-step : (d : List ℕ) (at : ℕ) → at < length d → optionsFrom d
 unfolding optionsFrom optionsIn
 options-step d at h = enough (length d) (suc (length d)) d at (omega arith) (omega arith) ∙ simp (lt-leb _ _ h)
 
--- ---- the first COOKIE so far, and all from here on
+-- ---- the walks: what is found from here on is what is found from before, if it is so far
 
-scan-push : (known : Listing) (o : EdnsOption) (rest : Option (List EdnsOption)) → scan known (bind rest (λ os. some (o ∷ os))) ≡ scan (withOption known o) rest
-unfolding bind withOptions
-scan-push known o none = refl
-scan-push known o (some os) = refl
+-- the next option, as the code has it
+module _ (d : List ℕ) (at : ℕ) (here : at < length d) (f : Found) (found : foundOf f ≡ optionAt d at) where
+  next-is : (o : EdnsOption) → f ≡ Inside o → optionsFrom d at ≡ bind (optionsFrom d (o .end)) (λ rest. some (o ∷ rest))
+  unfolding bind
+  next-is o k = options-step d at here ∙ rw (← found, k)
 
-module _ (d : List ℕ) (at : ℕ) (known : Listing) (all : Listing) (so-far : scan known (optionsFrom d at) ≡ all) where
-  pub scan-end : length d ≤ at → known ≡ all
-  unfolding withOptions
-  scan-end past = sym (ap (scan known) (options-end d at past)) ∙ so-far
+  next-past : f ≡ Past → optionsFrom d at ≡ none
+  unfolding bind
+  next-past k = options-step d at here ∙ rw (← found, k)
+
+  pub next-less : (o : EdnsOption) → f ≡ Inside o → length d - o .end < length d - at
+  next-less o k =
+      let l : Lies d at o = option-lies d at o (sym found ∙ ap foundOf k) in
+      omega (arith, l .begins, l .ordered)
+
+-- whether all are within the data
+push-none : (o : EdnsOption) (rest : Option (List EdnsOption)) → isNone (bind rest (λ os. some (o ∷ os))) ≡ isNone rest
+unfolding bind
+push-none o none = refl
+push-none o (some os) = refl
+
+module _ (d : List ℕ) (at : ℕ) (all : Bool) (so-far : not (isNone (optionsFrom d at)) ≡ all) where
+  pub whole-end : length d ≤ at → true ≡ all
+  whole-end past = sym (ap (λ (x : Option (List EdnsOption)). not (isNone x)) (options-end d at past)) ∙ so-far
 
   module _ (here : at < length d) (f : Found) (found : foundOf f ≡ optionAt d at) where
-    pub scan-cut : f ≡ found-as.Past → Past ≡ all
-    unfolding bind
-    scan-cut k = sym (rw (options-step d at here, ← found, k)) ∙ so-far
+    pub whole-past : f ≡ Past → false ≡ all
+    whole-past k = sym (ap (λ (x : Option (List EdnsOption)). not (isNone x)) (next-past d at here f found k)) ∙ so-far
 
-    pub scan-next : (o : EdnsOption) → f ≡ found-as.Inside o → (next : Listing) → next ≡ withOption known o → scan next (optionsFrom d (o .end)) ≡ all
-    unfolding bind
-    scan-next o k next e = sym (rw (options-step d at here, ← found, k, e) (scan-push known o (optionsFrom d (o .end)))) ∙ so-far
+    pub whole-next : (o : EdnsOption) → f ≡ Inside o → not (isNone (optionsFrom d (o .end))) ≡ all
+    whole-next o k = ap not (sym (push-none o (optionsFrom d (o .end))) ∙ sym (ap isNone (next-is d at here f found o k))) ∙ so-far
 
-    pub scan-less : (o : EdnsOption) → f ≡ found-as.Inside o → length d - o .end < length d - at
-    scan-less o k =
-        let l : Lies d at o = option-lies d at o (sym found ∙ ap foundOf k) in
-        omega (arith, l .begins, l .ordered)
+-- the answer, over the options from here on
+abbrev pub foundFrom : Option (List EdnsOption) → Listed
+foundFrom x = answered refused (first (9 when isNone x ∷ [])) (place (firstCookie (Option·getD x [])))
 
--- ---- the answer
-
-first-stays : (c : _) (os : List EdnsOption) → withOptions (First c) os ≡ First c
-unfolding withOptions
-first-stays c [] = refl
-first-stays c (o ∷ os) = pick (first-stays c os) (isCookie o)
-  where
-    pick : withOptions (First c) os ≡ First c → (x : Bool) → withOptions (cond x (First c) (First c)) os ≡ First c
-    pick ih true = ih
-    pick ih false = ih
-
-scan-is : (os : List EdnsOption) → listingOf (withOptions NoCookie os) ≡ place (firstCookie os)
-unfolding withOptions firstCookie
-scan-is [] = refl
-scan-is (o ∷ os) = pick (scan-is os) (isCookie o)
-  where
-    pick : listingOf (withOptions NoCookie os) ≡ place (firstCookie os) → (x : Bool)
-        → listingOf (withOptions (cond x (First (record { start = o .start; end = o .end })) NoCookie) os) ≡ place (cond x (some o) (firstCookie os))
-    pick ih true = ap listingOf (first-stays (record { start = o .start; end = o .end }) os)
-    pick ih false = ih
-
-pub listing-is : (d : List ℕ) (l : Listing) → l ≡ scan NoCookie (options d) → listingOf l ≡ cookieIn d
+pub found-all : (d : List ℕ) → foundFrom (optionsFrom d 0) ≡ cookieIn d
 unfolding cookieIn
-listing-is d l e = ap listingOf e ∙ pick (options d)
-  where
-    pick : (x : Option (List EdnsOption)) → listingOf (scan NoCookie x) ≡ answered refused (first (9 when isNone x ∷ [])) (place (firstCookie (Option·getD x [])))
-    pick none = refl
-    pick (some os) = scan-is os
+found-all d = refl
 
--- ---- one option more
+push-other : (o : EdnsOption) (rest : Option (List EdnsOption)) → isCookie o ≡ false → foundFrom (bind rest (λ os. some (o ∷ os))) ≡ foundFrom rest
+unfolding bind firstCookie
+push-other o none other = refl
+push-other o (some os) other = rw other
 
-module _ (known : Listing) (o : EdnsOption) where
-  pub other-code : (o .code ≡ 10 → ⊥) → known ≡ withOption known o
-  other-code n = simp (ne-eqb _ _ n)
+push-cookie : (o : EdnsOption) (rest : Option (List EdnsOption)) → isCookie o ≡ true
+    → foundFrom (bind rest (λ os. some (o ∷ os))) ≡ cond (not (isNone rest)) (cookie (o .start) (o .end)) (refused 9)
+unfolding bind firstCookie
+push-cookie o none is = refl
+push-cookie o (some os) is = rw is
 
-  module _ (is-cookie : o .code ≡ 10) where
-    one-more : withCookie known o ≡ withOption known o
-    one-more = simp (eq-eqb _ _ is-cookie)
+module _ (d : List ℕ) (at : ℕ) (all : Listed) (so-far : foundFrom (optionsFrom d at) ≡ all) where
+  pub found-end : length d ≤ at → noCookie ≡ all
+  unfolding firstCookie
+  found-end past = sym (ap foundFrom (options-end d at past)) ∙ so-far
 
-    pub cookie-first : known ≡ NoCookie → First (record { start = o .start; end = o .end }) ≡ withOption known o
-    cookie-first k = sym (ap (λ (l : Listing). withCookie l o) k) ∙ one-more
+  module _ (here : at < length d) (f : Found) (found : foundOf f ≡ optionAt d at) where
+    pub found-past : f ≡ Past → refused 9 ≡ all
+    found-past k = sym (ap foundFrom (next-past d at here f found k)) ∙ so-far
 
-    pub cookie-later : (c : _) → known ≡ First c → First c ≡ withOption known o
-    cookie-later c k = sym (ap (λ (l : Listing). withCookie l o) k) ∙ one-more
+    module _ (o : EdnsOption) (k : f ≡ Inside o) where
+      pub found-next : (o .code ≡ 10 → ⊥) → foundFrom (optionsFrom d (o .end)) ≡ all
+      found-next other =
+          sym (push-other o (optionsFrom d (o .end)) (ne-eqb (o .code) 10 other)) ∙ sym (ap foundFrom (next-is d at here f found o k)) ∙ so-far
 
-    pub cookie-past : known ≡ Past → Past ≡ withOption known o
-    cookie-past k = sym (ap (λ (l : Listing). withCookie l o) k) ∙ one-more
+      -- by whether those behind the COOKIE are within the data
+      module _ (is-cookie : o .code ≡ 10) (whole : Bool) (whole-is : whole ≡ not (isNone (optionsFrom d (o .end)))) where
+        found-cookie : cond whole (cookie (o .start) (o .end)) (refused 9) ≡ all
+        found-cookie =
+            ap (λ (b : Bool). cond b (cookie (o .start) (o .end)) (refused 9)) whole-is
+            ∙ sym (push-cookie o (optionsFrom d (o .end)) (eq-eqb (o .code) 10 is-cookie)) ∙ sym (ap foundFrom (next-is d at here f found o k)) ∙ so-far
+
+        pub found-first : whole ≡ true → cookie (o .start) (o .end) ≡ all
+        found-first w = sym (ap (λ (b : Bool). cond b (cookie (o .start) (o .end)) (refused 9)) w) ∙ found-cookie
+
+        pub found-first-past : whole ≡ false → refused 9 ≡ all
+        found-first-past w = sym (ap (λ (b : Bool). cond b (cookie (o .start) (o .end)) (refused 9)) w) ∙ found-cookie

@@ -2,4 +2,3 @@ pub mod Answers
 pub mod Cases
 pub mod Grammar
 pub mod Options
-pub mod Scan

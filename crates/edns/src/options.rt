@@ -4,58 +4,83 @@ use crate::EdnsOption;
 use crate::Found;
 use crate::Listing;
 ghost use mathlib.Core.Path.{_≡_};
-ghost use Rattle.edns.specs.Options.{optionAt, cookieIn, isCookieLength};
+ghost use Prim.Native.Nat.{_+_, _-_, _≤_};
+ghost use lib.ListN.{length};
+ghost use Rattle.octets.specs.Numbers.{be16At};
+ghost use mathlib.Core.Bool.{not};
+ghost use Rattle.octets.specs.Refusals.{isNone};
+ghost use Rattle.edns.specs.Options.{optionAt, optionsFrom, cookieIn, isCookieLength};
 ghost use Rattle.edns.specs.Answers.{foundOf, listingOf};
-ghost use Rattle.edns.specs.Scan.{withOption};
+
+// Where a body ends that starts here and whose length stands in the two bytes before. These are added one by one: the walk waits for
+// the next place, and a load of both with a swap takes longer.
+fn body_end(rdata: &[u8], start: usize) -> usize
+    requires { ⌜ (2 ≤ start) × (start ≤ length (now rdata)) ⌝ }
+    ensures { λ r. ⌜ r ≡ start + be16At (now (rdata .entry)) (start - 2) ⌝ }
+{
+    let high = rdata[start - 2];
+    let low = rdata[start - 1];
+    start + low as usize + high as usize * 256
+}
 
 // The option at a place of an OPT record's data.
 pub fn option_at(rdata: &[u8], at: usize) -> Found
     ensures { λ r. ⌜ foundOf r ≡ optionAt (now (rdata .entry)) at ⌝ }
 {
-    if rdata.len() < 4 {
+    if rdata.len() <= at {
         return Found::Past;
     }
-    if rdata.len() - 4 < at {
+    let start = at + 4;
+    if rdata.len() < start {
         return Found::Past;
     }
-    let size = octets::be16(rdata[at + 2], rdata[at + 3]) as usize;
-    if rdata.len() - 4 - at < size {
+    let end = body_end(rdata, start);
+    if rdata.len() < end {
         return Found::Past;
     }
     Found::Inside(EdnsOption {
         code: octets::be16(rdata[at], rdata[at + 1]),
-        start: at + 4,
-        end: at + 4 + size,
+        start,
+        end,
     })
 }
 
-// The first COOKIE option so far, with one option more.
-fn with_option(known: Listing, next: EdnsOption) -> Listing
-    ensures { λ r. ⌜ r ≡ withOption known next ⌝ }
+// Whether the options from a place on are all within the data.
+fn is_rest_whole(rdata: &[u8], from: usize) -> bool
+    ensures { λ r. ⌜ r ≡ not (isNone (optionsFrom (now (rdata .entry)) from)) ⌝ }
 {
-    if next.code == 10 {
-        return match known {
-            Listing::NoCookie => Listing::First(Cookie {
-                start: next.start,
-                end: next.end,
-            }),
-            Listing::First(cookie) => Listing::First(cookie),
-            Listing::Past => Listing::Past,
-        };
+    let mut at = from;
+    while at < rdata.len() {
+        match option_at(rdata, at) {
+            Found::Inside(next) => {
+                at = next.end;
+            }
+            Found::Past => {
+                return false;
+            }
+        }
     }
-    known
+    true
 }
 
-// Walks all the options of an OPT record's data: whether one is past it, and where the first COOKIE body lies.
+// Walks all the options of an OPT record's data: whether one is past it, and where the first COOKIE body lies. What is found is not
+// carried through the loop, which would wait for it at each option.
 pub fn walk(rdata: &[u8]) -> Listing
     ensures { λ r. ⌜ listingOf r ≡ cookieIn (now (rdata .entry)) ⌝ }
 {
     let mut at = 0;
-    let mut known = Listing::NoCookie;
     while at < rdata.len() {
         match option_at(rdata, at) {
             Found::Inside(next) => {
-                known = with_option(known, next);
+                if next.code == 10 {
+                    if is_rest_whole(rdata, next.end) {
+                        return Listing::First(Cookie {
+                            start: next.start,
+                            end: next.end,
+                        });
+                    }
+                    return Listing::Past;
+                }
                 at = next.end;
             }
             Found::Past => {
@@ -63,7 +88,7 @@ pub fn walk(rdata: &[u8]) -> Listing
             }
         }
     }
-    known
+    Listing::NoCookie
 }
 
 // Whether a COOKIE body may have so many bytes: 8, or 16 to 40.

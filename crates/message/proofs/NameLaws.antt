@@ -1,17 +1,21 @@
 -- Where a name ends, by one label at a time and with no count of turns. Assumes nothing.
-use Prim.Native.Nat.{ℕ, zero, suc, _+_, _-_, _≤_, _<_}
-use mathlib.Core.Path.{_≡_, refl, sym, ap, _∙_}
+use Prim.Native.Nat.{ℕ, zero, suc, _+_, _*_, _^_, _≤_, _<_}
+use mathlib.Core.Path.{_≡_, refl, sym, ap, subst, _∙_}
 use mathlib.Core.Bool.{Bool, true, false, cond, and-false}
 use mathlib.Core.List.{List}
 use mathlib.Core.Option.{Option, none, some, Option·none-ne-some}
-use native.Mathlib.Decide.{decLt}
+use native.Mathlib.Decide.{decLt, decLe}
 use native.Mathlib.Omega.{arith}
 use borrow.Author.Tests.{le-leb, lt-leb, ne-eqb}
+use lib.Dec.{eqb, leb}
 use lib.ListN.{length, getD, List·getD-eq-default}
+use mir.Syntax.{w64}
+use mir.Val.{Fits}
+use Rattle.octets.proofs.EachLaws.{IfOne}
 use Rattle.message.specs.Answers.{endOf}
 use Rattle.message.specs.declared.End.{End}
 use Rattle.message.specs.declared.End.the-variants.{At}
-use Rattle.message.specs.Name.{isLabel, pastLabels, labelsEnd, terminator, nameEnd}
+use Rattle.message.specs.Name.{within, isLabel, pastLabels, labelsEnd, terminator, nameEnd}
 
 -- ---- labels
 
@@ -71,26 +75,74 @@ module _ (s : List ℕ) (t : ℕ) where
   unfolding terminator
   ends-reserved n b = simp (ne-eqb _ _ n, lt-leb _ _ b)
 
-  pub ends-cut : (getD s t 0 ≡ 0 → ⊥) → 192 ≤ getD s t 0 → length s - t < 2 → none ≡ terminator s t
+  pub ends-cut : (getD s t 0 ≡ 0 → ⊥) → 192 ≤ getD s t 0 → length s < t + 2 → none ≡ terminator s t
   unfolding terminator
-  ends-cut n b cut = simp (ne-eqb _ _ n, le-leb _ _ b, lt-leb (t + 2) (length s) (omega arith))
+  ends-cut n b cut = simp (ne-eqb _ _ n, le-leb _ _ b, lt-leb _ _ cut)
 
-  pub ends-pointer : (getD s t 0 ≡ 0 → ⊥) → 192 ≤ getD s t 0 → 2 ≤ length s - t → some (t + 2) ≡ terminator s t
+  pub ends-pointer : (getD s t 0 ≡ 0 → ⊥) → 192 ≤ getD s t 0 → t + 2 ≤ length s → some (t + 2) ≡ terminator s t
   unfolding terminator
-  ends-pointer n b inside = simp (ne-eqb _ _ n, le-leb _ _ b, le-leb (t + 2) (length s) (omega arith))
+  ends-pointer n b inside = simp (ne-eqb _ _ n, le-leb _ _ b, le-leb _ _ inside)
 
 pub name-is : (s : List ℕ) (at t : ℕ) (end : Option ℕ) → t ≡ labelsEnd s at → end ≡ terminator s t → end ≡ nameEnd s at
 unfolding nameEnd
 name-is s at t end labels e = e ∙ ap (terminator s) labels
 
--- a name starts within the message
-pub name-past : (s : List ℕ) (at : ℕ) → length s ≤ at → none ≡ nameEnd s at
-unfolding nameEnd
-name-past s at past = ends-past s at past ∙ ap (terminator s) (sym (stop s at (no-label-past s at past)))
+-- ---- the name from here
 
-pub name-inside : (s : List ℕ) (at : ℕ) (n : End) → endOf n ≡ nameEnd s at → (e : ℕ) → n ≡ At e → at < length s
-name-inside s at n named e k =
-    elim (decLt at (length s)) [
-      | yes l ↦ l
-      | no m ↦ let past : none ≡ some e = name-past s at (omega arith) ∙ sym named ∙ ap endOf k in absurd (Option·none-ne-some e past)
+pub name-past : (s : List ℕ) (at : ℕ) → length s ≤ at → none ≡ nameEnd s at
+name-past s at past = name-is s at at none (labels-past s at at refl past) (ends-past s at past)
+
+pub name-zero : (s : List ℕ) (at : ℕ) → at < length s → getD s at 0 ≡ 0 → some (at + 1) ≡ nameEnd s at
+name-zero s at inside z = name-is s at at (some (at + 1)) (labels-zero s at at refl z) (ends-zero s at inside z)
+
+-- is that from a place before, if it is so far
+module _ (s : List ℕ) (at from : ℕ) (so-far : nameEnd s at ≡ nameEnd s from) where
+  pub rest-past : length s ≤ at → none ≡ nameEnd s from
+  rest-past past = name-past s at past ∙ so-far
+
+  pub rest-zero : at < length s → getD s at 0 ≡ 0 → some (at + 1) ≡ nameEnd s from
+  rest-zero inside z = name-zero s at inside z ∙ so-far
+
+  pub rest-long : 63 < getD s at 0 → (end : Option ℕ) → end ≡ terminator s at → end ≡ nameEnd s from
+  rest-long long end e = name-is s at at end (labels-long s at at refl long) e ∙ so-far
+
+  pub rest-go : (getD s at 0 ≡ 0 → ⊥) → getD s at 0 ≤ 63 → nameEnd s (at + 1 + getD s at 0) ≡ nameEnd s from
+  unfolding nameEnd
+  rest-go not-zero short = ap (terminator s) (labels-go s at at refl not-zero short) ∙ so-far
+
+-- ---- a name lies within the message
+
+abbrev EndInside : List ℕ → Option ℕ → Type 0
+EndInside s = IfOne (λ (e : ℕ). e ≤ length s)
+
+end-inside : (s : List ℕ) (t : ℕ) → EndInside s (within s t)
+end-inside s t =
+    elim (decLe t (length s)) [
+      | yes l ↦ rw (le-leb _ _ l) l
+      | no m ↦ rw (lt-leb t (length s) (omega arith)) tt
     ]
+
+terminator-inside : (s : List ℕ) (t : ℕ) → EndInside s (terminator s t)
+unfolding terminator
+terminator-inside s t = pick (eqb (getD s t 0) 0) (leb 192 (getD s t 0))
+  where
+    pick : (z p : Bool) → EndInside s (cond z (within s (t + 1)) (cond p (within s (t + 2)) none))
+    pick true p = end-inside s (t + 1)
+    pick false true = end-inside s (t + 2)
+    pick false false = tt
+
+module _ (s : List ℕ) (at : ℕ) (n : End) (named : endOf n ≡ nameEnd s at) (e : ℕ) (k : n ≡ At e) where
+  pub name-inside : at < length s
+  name-inside =
+      elim (decLt at (length s)) [
+        | yes l ↦ l
+        | no m ↦ let past : none ≡ some e = name-past s at (omega arith) ∙ sym named ∙ ap endOf k in absurd (Option·none-ne-some e past)
+      ]
+
+  pub name-within : e ≤ length s
+  unfolding nameEnd
+  name-within = subst (EndInside s) (sym named ∙ ap endOf k) (terminator-inside s (labelsEnd s at))
+
+  -- so that a place some bytes behind it does not wrap: a slice has less than 2 ^ 63
+  pub name-fits : length s * 1 < 2 ^ 63 → (more : ℕ) → more < 2 ^ 63 → Fits w64 (e + more)
+  name-fits bounded more small = record { fits = omega (arith, name-within) }

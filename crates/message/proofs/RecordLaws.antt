@@ -24,36 +24,28 @@ module _ (s : List ℕ) (at : ℕ) (n : End) (named : endOf n ≡ nameEnd s at) 
   record-no-name k = rw (← named, k)
 
   module _ (e : ℕ) (k : n ≡ At e) where
-    pub question-short : length s < 4 → none ≡ questionEnd s at
+    pub question-cut : length s < e + 4 → none ≡ questionEnd s at
     unfolding questionEnd bind
-    question-short l = rw (← named, k) (simp (lt-leb (e + 4) (length s) (omega arith)))
+    question-cut cut = rw (← named, k) (simp (lt-leb _ _ cut))
 
-    pub question-cut : 4 ≤ length s → length s - 4 < e → none ≡ questionEnd s at
+    pub question-whole : e + 4 ≤ length s → some (e + 4) ≡ questionEnd s at
     unfolding questionEnd bind
-    question-cut l m = rw (← named, k) (simp (lt-leb (e + 4) (length s) (omega arith)))
+    question-whole inside = rw (← named, k) (simp (le-leb _ _ inside))
 
-    pub question-whole : 4 ≤ length s → e ≤ length s - 4 → some (e + 4) ≡ questionEnd s at
-    unfolding questionEnd bind
-    question-whole l m = rw (← named, k) (simp (le-leb (e + 4) (length s) (omega arith)))
-
-    pub record-short : length s < 10 → none ≡ recordAt s at
+    pub record-cut : length s < e + 10 → none ≡ recordAt s at
     unfolding recordAt bind
-    record-short l = rw (← named, k) (simp (lt-leb (e + 10 + be16At s (e + 8)) (length s) (omega arith)))
+    record-cut cut = rw (← named, k) (simp (lt-leb (e + 10 + be16At s (e + 8)) (length s) (omega arith)))
 
-    pub record-cut : 10 ≤ length s → length s - 10 < e → none ≡ recordAt s at
-    unfolding recordAt bind
-    record-cut l m = rw (← named, k) (simp (lt-leb (e + 10 + be16At s (e + 8)) (length s) (omega arith)))
+    -- where the data ends, as the code works it out
+    module _ (end : ℕ) (worked-out : end ≡ e + 10 + be16At s (e + 10 - 2)) where
+      end-is : end ≡ e + 10 + be16At s (e + 8)
+      end-is = let at-8 : e + 10 - 2 ≡ e + 8 = omega arith in worked-out ∙ ap (λ (i : ℕ). e + 10 + be16At s i) at-8
 
-    module _ (size : ℕ) (read : size ≡ beNumber (getD s (e + 8) 0 ∷ getD s (e + 9) 0 ∷ [])) (long : 10 ≤ length s) (here : e ≤ length s - 10) where
-      pub record-past : length s - 10 - e < size → none ≡ recordAt s at
+      pub record-past : length s < end → none ≡ recordAt s at
       unfolding recordAt bind
-      record-past m =
-          let size-is : size ≡ be16At s (e + 8) = read ∙ ap (λ (i : ℕ). beNumber (getD s (e + 8) 0 ∷ getD s i 0 ∷ [])) (omega arith) in
-          rw (← named, k) (simp (lt-leb (e + 10 + be16At s (e + 8)) (length s) (omega (arith, size-is))))
+      record-past past = rw (← named, k) (simp (lt-leb (e + 10 + be16At s (e + 8)) (length s) (omega (arith, end-is))))
 
-      pub record-whole : size ≤ length s - 10 - e → (kind : ℕ) → kind ≡ beNumber (getD s e 0 ∷ getD s (e + 1) 0 ∷ [])
-          → some (record { root = eqb (getD s at 0) 0; kind = kind; version = getD s (e + 5) 0; start = e + 10; end = e + 10 + size }) ≡ recordAt s at
+      pub record-whole : end ≤ length s → (kind : ℕ) → kind ≡ beNumber (getD s e 0 ∷ getD s (e + 1) 0 ∷ [])
+          → some (record { root = eqb (getD s at 0) 0; kind = kind; version = getD s (e + 5) 0; start = e + 10; end = end }) ≡ recordAt s at
       unfolding recordAt bind
-      record-whole m kind typed =
-          let size-is : size ≡ be16At s (e + 8) = read ∙ ap (λ (i : ℕ). beNumber (getD s (e + 8) 0 ∷ getD s i 0 ∷ [])) (omega arith) in
-          rw (← named, k, typed, size-is) (simp (le-leb (e + 10 + be16At s (e + 8)) (length s) (omega (arith, size-is))))
+      record-whole inside kind typed = rw (← named, k, typed, end-is) (simp (le-leb (e + 10 + be16At s (e + 8)) (length s) (omega (arith, end-is))))

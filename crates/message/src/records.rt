@@ -3,6 +3,9 @@ use crate::End;
 use crate::Found;
 use crate::Record;
 ghost use mathlib.Core.Path.{_≡_};
+ghost use Prim.Native.Nat.{_+_, _-_, _≤_};
+ghost use lib.ListN.{length};
+ghost use Rattle.octets.specs.Numbers.{be16At};
 ghost use Rattle.message.specs.Record.{questionEnd, recordAt};
 ghost use Rattle.message.specs.Answers.{endOf, foundOf};
 
@@ -14,13 +17,22 @@ pub fn question_end(message: &[u8], at: usize) -> End
     let End::At(end) = name else {
         return End::Malformed;
     };
-    if message.len() < 4 {
+    let stop = end + 4;
+    if message.len() < stop {
         return End::Malformed;
     }
-    if message.len() - 4 < end {
-        return End::Malformed;
-    }
-    End::At(end + 4)
+    End::At(stop)
+}
+
+// Where data ends that starts here and whose length stands in the two bytes before. These are added one by one: the walk waits for
+// the next place, and a load of both with a swap takes longer.
+fn data_end(message: &[u8], start: usize) -> usize
+    requires { ⌜ (2 ≤ start) × (start ≤ length (now message)) ⌝ }
+    ensures { λ r. ⌜ r ≡ start + be16At (now (message .entry)) (start - 2) ⌝ }
+{
+    let high = message[start - 2];
+    let low = message[start - 1];
+    start + low as usize + high as usize * 256
 }
 
 // The record at a place.
@@ -31,21 +43,19 @@ pub fn record_at(message: &[u8], at: usize) -> Found
     let End::At(end) = name else {
         return Found::Cut;
     };
-    if message.len() < 10 {
+    let start = end + 10;
+    if message.len() < start {
         return Found::Cut;
     }
-    if message.len() - 10 < end {
-        return Found::Cut;
-    }
-    let size = octets::be16(message[end + 8], message[end + 9]) as usize;
-    if message.len() - 10 - end < size {
+    let stop = data_end(message, start);
+    if message.len() < stop {
         return Found::Cut;
     }
     Found::Whole(Record {
         root: message[at] == 0,
         kind: octets::be16(message[end], message[end + 1]),
         version: message[end + 5],
-        start: end + 10,
-        end: end + 10 + size,
+        start,
+        end: stop,
     })
 }

@@ -1,7 +1,7 @@
 -- A number read byte by byte from a place of a run is the number of the part there. Stated once over the count of bytes. Assumes nothing.
 use mathlib.Core.Path.{_≡_, refl, sym, ap, ap₂, _∙_}
 use mathlib.Core.List.{List, [], _∷_}
-use Prim.Native.Nat.{ℕ, zero, suc, _+_, _*_, _≤_, _<_}
+use Prim.Native.Nat.{ℕ, zero, suc, _+_, _-_, _*_, _≤_, _<_}
 use native.Mathlib.Nat.{add-suc, add-zero}
 use native.Mathlib.Decide.{decLt}
 use native.Mathlib.Omega.{arith}
@@ -80,3 +80,11 @@ part-again k at s within bytes =
     let part = take k (drop at s) in
     let long : length part ≡ k = length-take-le k (drop at s) (omega (arith, length-drop at s)) in
     ap (λ (n : ℕ). leBytes n (leNumber part)) (sym long) ∙ le-again part (part-bytes k at s bytes)
+
+-- ---- behind a part whose length stands in the two bytes before it
+
+pub behind-16 : (s : List ℕ) (start : ℕ) → 2 ≤ start → start + getD s (start - 1) 0 + getD s (start - 2) 0 * 256 ≡ start + be16At s (start - 2)
+unfolding beNumber
+behind-16 s start low =
+    let next : start - 1 ≡ start - 2 + 1 = omega arith in
+    rw next (omega arith)

@@ -1,11 +1,11 @@
 // The verbs that run the crate `cookie`: judge, fresh, kept and body. Each answers one line. False: nothing more can be written.
 use crate::fields;
-use crate::hex;
-use crate::output;
-use crate::text;
 use cookie::Judged;
 use cookie::Refusal;
 use cookie::Written;
+use lines::hex;
+use lines::output;
+use lines::text;
 use secret::Secrets;
 use verdict::Action;
 use verdict::Carried;

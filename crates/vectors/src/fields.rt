@@ -1,5 +1,5 @@
 // The fields of one size, read from their text. Where a field is not well written, `ok` is false and its value is any.
-use crate::hex;
+use lines::hex;
 use secret::Secret;
 use secret::Secrets;
 use verdict::Mode;

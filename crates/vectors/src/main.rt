@@ -20,11 +20,11 @@
 // nothing after it is read.
 mod cookies;
 mod fields;
-mod hex;
-mod output;
-mod text;
 
-use libc::STDIN_FILENO;
+use lines::hex;
+use lines::output;
+use lines::reader;
+use lines::text;
 
 // What a line asks for.
 enum Verb {
@@ -35,20 +35,6 @@ enum Verb {
     Kept,
     Body,
     Unknown,
-}
-
-// What a turn of reading leaves: how many bytes of an unfinished line stand at the buffer's front, and that line's number.
-struct Turn {
-    kept: usize,
-    number: u64,
-    more: bool,
-}
-
-// What running the whole lines of a text leaves: where the unfinished line starts, and its number.
-struct Rest {
-    start: usize,
-    number: u64,
-    more: bool,
 }
 
 // `siphash24 KEY MESSAGE`
@@ -92,18 +78,10 @@ fn verb_of(line: &[u8]) -> Verb {
     Verb::Unknown
 }
 
-// A comment or an empty line, as it is.
-fn comment_line(line: &[u8]) -> bool {
-    if !output::say(line) {
-        return false;
-    }
-    output::say(b"\n")
-}
-
 // Answers one line. False: nothing more can be written.
 fn run_line(line: &[u8], number: u64, bytes: &mut [u8]) -> bool {
     match verb_of(line) {
-        Verb::Comment => comment_line(line),
+        Verb::Comment => output::say_line(line),
         Verb::Hash => hash_line(line, number, bytes),
         Verb::Judge => cookies::judge_line(line, number, bytes),
         Verb::Fresh => cookies::fresh_line(line, number, bytes),
@@ -113,81 +91,20 @@ fn run_line(line: &[u8], number: u64, bytes: &mut [u8]) -> bool {
     }
 }
 
-// Answers each whole line of a text.
-fn run_lines(lines: &[u8], first: u64, bytes: &mut [u8]) -> Rest {
-    let mut at = 0;
-    let mut number = first;
-    while at < lines.len() {
-        let rest = &lines[at..];
-        let n = text::find(rest, b'\n');
-        if n == rest.len() {
-            return Rest {
-                start: at,
-                number,
-                more: true,
-            };
-        }
-        if !run_line(&rest[0..n], number, bytes) {
-            return Rest {
-                start: at,
-                number,
-                more: false,
-            };
-        }
-        at = at + n + 1;
-        number = std::num::wrapping_add_u64(number, 1);
-    }
-    Rest {
-        start: at,
-        number,
-        more: true,
-    }
-}
-
-// Reads once behind what was kept, answers the lines that are whole by then, and keeps the rest.
-fn read_once(buffer: &mut [u8], kept: usize, number: u64, bytes: &mut [u8]) -> Turn {
-    let done = Turn {
-        kept: 0,
-        number,
-        more: false,
-    };
-    if buffer.len() <= kept {
-        output::say_number(b"long line ", number);
-        return done;
-    }
-    let got = libc::read(STDIN_FILENO, &mut buffer[kept..]);
-    if got < 0 {
-        os::fail(b"standard input");
-        return done;
-    }
-    if got == 0 {
-        if 0 < kept {
-            run_line(&buffer[0..kept], number, bytes);
-        }
-        return done;
-    }
-    let have = kept + io::count(got, &buffer[kept..]);
-    let rest = run_lines(&buffer[0..have], number, bytes);
-    let start = rest.start;
-    Turn {
-        kept: text::shift(buffer, start, have),
-        number: rest.number,
-        more: rest.more,
-    }
-}
-
 // A proved loop has to end, and nothing says that the input does: it counts down from a number that no run uses up.
 fn run(buffer: &mut [u8], bytes: &mut [u8]) {
-    let mut kept = 0;
-    let mut number = 1;
+    let mut cursor = reader::start();
     let mut turns = u64::MAX;
     while 0 < turns {
-        let t = read_once(buffer, kept, number, bytes);
-        if !t.more {
+        cursor = reader::next(buffer, cursor);
+        if !cursor.is_line {
             return;
         }
-        kept = t.kept;
-        number = t.number;
+        let start = cursor.start;
+        let end = cursor.end;
+        if !run_line(&buffer[start..end], cursor.number, bytes) {
+            return;
+        }
         turns -= 1;
     }
 }

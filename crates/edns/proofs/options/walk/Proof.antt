@@ -1,35 +1,39 @@
--- `edns::options::walk` meets its contract. The options that are left give, with the first COOKIE so far, what all do. Assumes nothing.
+-- `edns::options::walk` meets its contract. What is found from here on is what is found in all. Assumes nothing.
 use Prim.Native.Nat.{_-_}
 use borrow.Author.Needs.{needs}
 use lib.ListN.{length}
-use mathlib.Core.Path.{_≡_, refl}
-use Rattle.edns.proofs.OptionLaws.{scan-less, scan-next, scan-cut, scan-end, listing-is}
-use Rattle.edns.specs.Options.{options, optionsFrom}
-use Rattle.edns.specs.Scan.{scan}
-use Rattle.edns.specs.declared.Listing.the-variants.{NoCookie}
+use mathlib.Core.Path.{_≡_}
+use Rattle.edns.proofs.OptionLaws.{next-less, foundFrom, found-all, found-end, found-past, found-next, found-first, found-first-past}
+use Rattle.edns.specs.Options.{optionsFrom, cookieIn}
 use Rattle.edns.proofs.options.walk.Statement.{statement}
 use Rattle.edns.proofs.options.walk.Tie as tie
 
 abbrev Inv-loop : tie.InvT-loop
-Inv-loop rdata at₀ known₀ at known = scan known (optionsFrom rdata at) ≡ scan NoCookie (options rdata)
+Inv-loop rdata at₀ at = foundFrom (optionsFrom rdata at) ≡ cookieIn rdata
 
 abbrev μ-loop : tie.MeasureT-loop
-μ-loop rdata at₀ known₀ at known = length rdata - at
+μ-loop rdata at₀ at = length rdata - at
 
 loop-holds : tie.Need-loop-holds Inv-loop μ-loop
-loop-holds c = refl
-
-loop-less : tie.Need-loop-less Inv-loop μ-loop
-loop-less c = search (needs, scan-less)
-
-loop-again : tie.Need-loop-again Inv-loop μ-loop
-loop-again c = search (needs, scan-next)
+loop-holds c = search (needs, found-all)
 
 returns : tie.Need-returns Inv-loop μ-loop
-returns c = search (needs, listing-is, scan-cut)
+returns c = search (needs, found-first)
 
 returns-2 : tie.Need-returns-2 Inv-loop μ-loop
-returns-2 c = search (needs, listing-is, scan-end)
+returns-2 c = search (needs, found-first-past)
+
+loop-less : tie.Need-loop-less Inv-loop μ-loop
+loop-less c = search (needs, next-less)
+
+loop-again : tie.Need-loop-again Inv-loop μ-loop
+loop-again c = search (needs, found-next)
+
+returns-3 : tie.Need-returns-3 Inv-loop μ-loop
+returns-3 c = search (needs, found-past)
+
+returns-4 : tie.Need-returns-4 Inv-loop μ-loop
+returns-4 c = search (needs, found-end)
 
 pub walk-spec : {M : Type 1} → statement M
 walk-spec =
@@ -41,8 +45,10 @@ walk-spec =
     (λ c κs. search needs)
     (λ c. search needs)
     (λ c κs. search needs)
+    returns
+    returns-2
     loop-less
     loop-again
     (λ c. search needs)
-    returns
-    returns-2)
+    returns-3
+    returns-4)

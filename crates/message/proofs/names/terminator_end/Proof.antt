@@ -22,13 +22,4 @@ returns-5 c = search (needs, ends-pointer)
 pub terminator-end-spec : {M : Type 1} → statement M
 terminator-end-spec =
     tie.close
-    (tie.spec
-    returns
-    (λ c. search needs)
-    (λ c. search needs)
-    returns-2
-    returns-3
-    (λ c. search needs)
-    returns-4
-    (λ c. search needs)
-    returns-5)
+    (tie.spec returns (λ c. search needs) (λ c. search needs) returns-2 returns-3 (λ c. search needs) returns-4 returns-5)
