@@ -29,10 +29,7 @@ module _ (d : List ℕ) (at : ℕ) where
   option-cut cut = simp (lt-leb (at + 4 + be16At d (at + 2)) (length d) (omega arith))
 
   -- where the body ends, as the code works it out
-  module _ (end : ℕ) (worked-out : end ≡ at + 4 + be16At d (at + 4 - 2)) where
-    end-is : end ≡ at + 4 + be16At d (at + 2)
-    end-is = let at-2 : at + 4 - 2 ≡ at + 2 = omega arith in worked-out ∙ ap (λ (i : ℕ). at + 4 + be16At d i) at-2
-
+  module _ (end : ℕ) (end-is : end ≡ at + 4 + be16At d (at + 2)) where
     pub option-past : length d < end → none ≡ optionAt d at
     unfolding optionAt
     option-past past = simp (lt-leb (at + 4 + be16At d (at + 2)) (length d) (omega (arith, end-is)))

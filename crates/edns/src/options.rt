@@ -4,7 +4,7 @@ use crate::EdnsOption;
 use crate::Found;
 use crate::Listing;
 ghost use mathlib.Core.Path.{_≡_};
-ghost use Prim.Native.Nat.{_+_, _-_, _≤_};
+ghost use Prim.Native.Nat.{_+_, _≤_};
 ghost use lib.ListN.{length};
 ghost use Rattle.octets.specs.Numbers.{be16At};
 ghost use mathlib.Core.Bool.{not};
@@ -12,15 +12,15 @@ ghost use Rattle.octets.specs.Refusals.{isNone};
 ghost use Rattle.edns.specs.Options.{optionAt, optionsFrom, cookieIn, isCookieLength};
 ghost use Rattle.edns.specs.Answers.{foundOf, listingOf};
 
-// Where a body ends that starts here and whose length stands in the two bytes before. These are added one by one: the walk waits for
-// the next place, and a load of both with a swap takes longer.
-fn body_end(rdata: &[u8], start: usize) -> usize
-    requires { ⌜ (2 ≤ start) × (start ≤ length (now rdata)) ⌝ }
-    ensures { λ r. ⌜ r ≡ start + be16At (now (rdata .entry)) (start - 2) ⌝ }
+// Where the option that starts here ends. The two bytes of its length are added one by one: the walk waits for the next place, and a
+// load of both with a swap takes longer.
+fn body_end(rdata: &[u8], at: usize) -> usize
+    requires { ⌜ at + 4 ≤ length (now rdata) ⌝ }
+    ensures { λ r. ⌜ r ≡ at + 4 + be16At (now (rdata .entry)) (at + 2) ⌝ }
 {
-    let high = rdata[start - 2];
-    let low = rdata[start - 1];
-    start + low as usize + high as usize * 256
+    let high = rdata[at + 2];
+    let low = rdata[at + 3];
+    at + 4 + low as usize + high as usize * 256
 }
 
 // The option at a place of an OPT record's data.
@@ -34,7 +34,7 @@ pub fn option_at(rdata: &[u8], at: usize) -> Found
     if rdata.len() < start {
         return Found::Past;
     }
-    let end = body_end(rdata, start);
+    let end = body_end(rdata, at);
     if rdata.len() < end {
         return Found::Past;
     }

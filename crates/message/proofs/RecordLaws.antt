@@ -37,10 +37,7 @@ module _ (s : List ℕ) (at : ℕ) (n : End) (named : endOf n ≡ nameEnd s at) 
     record-cut cut = rw (← named, k) (simp (lt-leb (e + 10 + be16At s (e + 8)) (length s) (omega arith)))
 
     -- where the data ends, as the code works it out
-    module _ (end : ℕ) (worked-out : end ≡ e + 10 + be16At s (e + 10 - 2)) where
-      end-is : end ≡ e + 10 + be16At s (e + 8)
-      end-is = let at-8 : e + 10 - 2 ≡ e + 8 = omega arith in worked-out ∙ ap (λ (i : ℕ). e + 10 + be16At s i) at-8
-
+    module _ (end : ℕ) (end-is : end ≡ e + 10 + be16At s (e + 8)) where
       pub record-past : length s < end → none ≡ recordAt s at
       unfolding recordAt bind
       record-past past = rw (← named, k) (simp (lt-leb (e + 10 + be16At s (e + 8)) (length s) (omega (arith, end-is))))

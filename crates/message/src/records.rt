@@ -3,7 +3,7 @@ use crate::End;
 use crate::Found;
 use crate::Record;
 ghost use mathlib.Core.Path.{_≡_};
-ghost use Prim.Native.Nat.{_+_, _-_, _≤_};
+ghost use Prim.Native.Nat.{_+_, _≤_};
 ghost use lib.ListN.{length};
 ghost use Rattle.octets.specs.Numbers.{be16At};
 ghost use Rattle.message.specs.Record.{questionEnd, recordAt};
@@ -24,15 +24,15 @@ pub fn question_end(message: &[u8], at: usize) -> End
     End::At(stop)
 }
 
-// Where data ends that starts here and whose length stands in the two bytes before. These are added one by one: the walk waits for
-// the next place, and a load of both with a swap takes longer.
-fn data_end(message: &[u8], start: usize) -> usize
-    requires { ⌜ (2 ≤ start) × (start ≤ length (now message)) ⌝ }
-    ensures { λ r. ⌜ r ≡ start + be16At (now (message .entry)) (start - 2) ⌝ }
+// Where a record ends whose owner ends here. The two bytes of RDLENGTH are added one by one: the walk waits for the next place, and
+// a load of both with a swap takes longer.
+fn data_end(message: &[u8], at: usize) -> usize
+    requires { ⌜ at + 10 ≤ length (now message) ⌝ }
+    ensures { λ r. ⌜ r ≡ at + 10 + be16At (now (message .entry)) (at + 8) ⌝ }
 {
-    let high = message[start - 2];
-    let low = message[start - 1];
-    start + low as usize + high as usize * 256
+    let high = message[at + 8];
+    let low = message[at + 9];
+    at + 10 + low as usize + high as usize * 256
 }
 
 // The record at a place.
@@ -47,7 +47,7 @@ pub fn record_at(message: &[u8], at: usize) -> Found
     if message.len() < start {
         return Found::Cut;
     }
-    let stop = data_end(message, start);
+    let stop = data_end(message, end);
     if message.len() < stop {
         return Found::Cut;
     }

@@ -81,10 +81,8 @@ part-again k at s within bytes =
     let long : length part ≡ k = length-take-le k (drop at s) (omega (arith, length-drop at s)) in
     ap (λ (n : ℕ). leBytes n (leNumber part)) (sym long) ∙ le-again part (part-bytes k at s bytes)
 
--- ---- behind a part whose length stands in the two bytes before it
+-- ---- a place and the number of two bytes, added one by one
 
-pub behind-16 : (s : List ℕ) (start : ℕ) → 2 ≤ start → start + getD s (start - 1) 0 + getD s (start - 2) 0 * 256 ≡ start + be16At s (start - 2)
+pub behind-16 : (s : List ℕ) (place at next : ℕ) → next ≡ at + 1 → place + getD s next 0 + getD s at 0 * 256 ≡ place + be16At s at
 unfolding beNumber
-behind-16 s start low =
-    let next : start - 1 ≡ start - 2 + 1 = omega arith in
-    rw next (omega arith)
+behind-16 s place at next e = rw e (omega arith)
