@@ -2,3 +2,4 @@ pub mod BodyLaws
 pub mod Cases
 pub mod Claims
 pub mod RestLaws
+pub mod Shape

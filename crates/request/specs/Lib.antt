@@ -3,3 +3,4 @@ pub mod Cases
 pub mod Claims
 pub mod Request
 pub mod Rest
+pub mod Shape
