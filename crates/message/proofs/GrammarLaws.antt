@@ -18,7 +18,7 @@ use Rattle.message.specs.Record.{questionEnd, fields, whole, recordAt}
 use Rattle.octets.proofs.RefusalLaws.{is-some}
 use Rattle.octets.specs.Refusals.{isNone}
 use Rattle.message.specs.Message.{qdcount, ancount, nscount, arcount, questionsEnd, records, sections, malformed}
-use Rattle.message.specs.Grammar.{Name, Question, ARecord, Several, Header, WellFormed, SixExactlyWhen, Said, isRoot, sayingOf, sayings, sayingsBefore, sayingsAdditional, said, ListedAreThese}
+use Rattle.message.specs.Grammar.{Name, Question, ARecord, Several, Header, WellFormed, SixExactlyWhen, Said, isRoot, sayingOf, sayings, questionsIn, sayingsBefore, sayingsAdditional, said, ListedAreThese}
 use Rattle.message.specs.Grammar.Name.{zero-byte, pointer, label}
 use Rattle.message.specs.Grammar.Question.{question}
 use Rattle.message.specs.Grammar.ARecord.{arecord}
@@ -428,6 +428,7 @@ record All (s : List ℕ) (w : WellFormed s) : Type 0 where
   found : sections s ≡ some list
   says : map (said s) list ≡ sayingsBefore w ++ sayingsAdditional w
   before : ancount s + nscount s ≡ length (sayingsBefore w)
+  asked : qdcount s ≡ questionsIn w
 
 all-found : (s : List ℕ) (w : WellFormed s) → All s w
 unfolding sections bind
@@ -447,10 +448,11 @@ all-found s (message qd an ns ar head questions answers authority additional h q
       found = rw (counts .questions, counts .answers, counts .authority, counts .additional, asked) (run .found);
       says = run .says;
       before = omega (arith, counts .answers, counts .authority, count-sayings an answers a, count-sayings ns authority u, length-append (sayings a) (sayings u));
+      asked = counts .questions;
     }
 
 pub six-exactly-when : SixExactlyWhen
 six-exactly-when s = (well-formed s, λ w. ap isNone (all-found s w .found))
 
 pub listed-are-these : ListedAreThese
-listed-are-these s w = let all = all-found s w in record { say = rw (all .found) (all .says); before = all .before }
+listed-are-these s w = let all = all-found s w in record { say = rw (all .found) (all .says); before = all .before; asked = all .asked }

@@ -6,7 +6,7 @@ use mathlib.Core.Bool.{Bool, true, false}
 use mathlib.Core.List.{List, [], _∷_, _++_, map}
 use lib.ListN.{length, take, drop, getD}
 use Rattle.octets.specs.Numbers.{beNumber}
-use Rattle.message.specs.Message.{ancount, nscount, recordsOf, malformed}
+use Rattle.message.specs.Message.{qdcount, ancount, nscount, recordsOf, malformed}
 use Rattle.message.specs.declared.Record.{Record}
 
 -- ---- the shape
@@ -70,6 +70,10 @@ abbrev pub sayings : {n : ℕ} {p : List ℕ} → Several ARecord n p → List S
 sayings nothing = []
 sayings (more n one rest r rs) = sayingOf r ∷ sayings rs
 
+-- how many questions there are
+abbrev pub questionsIn : {s : List ℕ} → WellFormed s → ℕ
+questionsIn (message qd an ns ar head questions answers authority additional h q a u d) = qd
+
 -- of the answer and authority sections
 abbrev pub sayingsBefore : {s : List ℕ} → WellFormed s → List Said
 sayingsBefore (message qd an ns ar head questions answers authority additional h q a u d) = sayings a ++ sayings u
@@ -88,10 +92,12 @@ said s r = record { root = r .root; kind = r .kind; version = r .version; rdata 
 abbrev pub SixExactlyWhen : Type 0
 SixExactlyWhen = (s : List ℕ) → (malformed s ≡ false → WellFormed s) × (WellFormed s → malformed s ≡ false)
 
--- and of those the definitions list the records that are there, in their order, and count rightly which stand before the additional section
+-- and of those the definitions count the questions and list the records that are there, in their order, and count rightly which stand before the additional
+-- section
 pub record RecordsAre (s : List ℕ) (w : WellFormed s) : Type 0 where
   pub say : map (said s) (recordsOf s) ≡ sayingsBefore w ++ sayingsAdditional w
   pub before : ancount s + nscount s ≡ length (sayingsBefore w)
+  pub asked : qdcount s ≡ questionsIn w
 
 -- for every well-formed message
 abbrev pub ListedAreThese : Type 0

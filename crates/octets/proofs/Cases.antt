@@ -31,4 +31,8 @@ cases-hold =
       first-row = λ n rows. refl;
       later-row = λ n rows. refl;
       none-applies = refl;
+      no-refusal = λ refused found. refl;
+      a-refusal = λ refused n found. refl;
+      nothing-there = refl;
+      there = λ n. refl;
     }

@@ -3,9 +3,10 @@
 use mathlib.Core.Path.{_≡_}
 use mathlib.Core.Bool.{true, false}
 use mathlib.Core.List.{List, [], _∷_}
-use Prim.Native.Nat.{ℕ}
+use mathlib.Core.Option.{none, some}
+use Prim.Native.Nat.{ℕ, suc}
 use Rattle.octets.specs.Numbers.{leNumber, leBytes, beNumber, beBytes, printed, be16At, be32At, be64At}
-use Rattle.octets.specs.Refusals.{Row, _when_, first}
+use Rattle.octets.specs.Refusals.{Row, _when_, first, answered, isNone}
 use Rattle.octets.specs.Runs.{sameRun, fits, written}
 
 -- the claim: each definition gives what is written beside it
@@ -33,3 +34,7 @@ pub record CasesHold : Type 0 where
   pub first-row : (n : ℕ) (rows : List Row) → first (n when true ∷ rows) ≡ n
   pub later-row : (n : ℕ) (rows : List Row) → first (n when false ∷ rows) ≡ first rows
   pub none-applies : first (2 when false ∷ 10 when false ∷ []) ≡ 0
+  pub no-refusal : (refused : ℕ → ℕ) (found : ℕ) → answered refused 0 found ≡ found
+  pub a-refusal : (refused : ℕ → ℕ) (n found : ℕ) → answered refused (suc n) found ≡ refused (suc n)
+  pub nothing-there : isNone {A = ℕ} none ≡ true
+  pub there : (n : ℕ) → isNone (some n) ≡ false
