@@ -1,9 +1,9 @@
 -- The claims of specs/Cases.antt, by computing the definitions. Assumes nothing.
-use mathlib.Core.Path.{refl, sym}
+use mathlib.Core.Path.{refl}
 use mathlib.Core.Option.{bind}
 use native.Mathlib.Omega.{arith}
+use borrow.Author.Tests.{le-leb, lt-leb, ne-eqb}
 use Rattle.octets.specs.Numbers.{beNumber}
-use Rattle.edns.proofs.LengthLaws.{is-long}
 use Rattle.edns.specs.Cases.{NamesHold, OptionCases, LengthsHold}
 use Rattle.edns.specs.Options.{optionAt, optionsIn, optionsFrom, firstCookie, isCookieLength, cookieIn}
 
@@ -53,5 +53,5 @@ unfolding isCookieLength
 lengths-hold =
     record {
       lengths = refl;
-      longer = λ n long. sym (is-long n (λ e. omega (arith, long, e)) long);
+      longer = λ n long. rw (ne-eqb n 8 (λ e. omega (arith, long, e)), le-leb 16 n (omega arith), lt-leb n 40 (omega arith));
     }

@@ -7,7 +7,7 @@ use mathlib.Core.Option.{Option, none, some, Option·getD}
 use native.Mathlib.Omega.{arith}
 use borrow.Author.Tests.{lt-ltb, le-ltb, le-leb, lt-leb, eq-eqb, ne-eqb}
 use lib.Dec.{eqb}
-use lib.ListN.{length, drop, getD, length-drop}
+use lib.ListN.{length, take, drop, getD, length-drop}
 use Rattle.octets.specs.Refusals.{_when_, first, answered, isNone}
 use Rattle.edns.specs.Options.{options, optionsFrom, optionsIn, optionsOf, optionPast, firstCookie, isCookieLength, place, cookieIn}
 use Rattle.edns.specs.Options as edns
@@ -99,13 +99,15 @@ module _ (s : List ℕ) (q : ℕ) (r : Record) where
       pub with-cookie : (x : Answer) → x ≡ afterCookie q (r .start) (c .start) (c .end) → x ≡ afterOpt s q r
       with-cookie x e = e ∙ opt-is (First c) k
 
-      pub cookie-ordered : c .start ≤ c .end
-      cookie-ordered = cookie-inside (dataOf s r) l walked c k .ordered
+-- a COOKIE body that was found in a part of the message
+module _ (s : List ℕ) (start end : ℕ) (l : Listing) (walked : listingOf l ≡ cookieIn (take (end - start) (drop start s))) (c : Cookie) (k : l ≡ First c) where
+  pub cookie-ordered : c .start ≤ c .end
+  cookie-ordered = cookie-inside (take (end - start) (drop start s)) l walked c k .ordered
 
-      pub cookie-fits : r .start ≤ r .end → r .end ≤ length s → length s ≤ 65535 → r .start + c .end ≤ 65535
-      cookie-fits ordered within small =
-          let long : length (dataOf s r) ≡ r .end - r .start = length-take-le (r .end - r .start) (drop (r .start) s) (omega (arith, length-drop (r .start) s)) in
-          omega (arith, cookie-inside (dataOf s r) l walked c k .within, long)
+  pub cookie-fits : start ≤ end → end ≤ length s → length s ≤ 65535 → start + c .end ≤ 65535
+  cookie-fits ordered within small =
+      let long : length (take (end - start) (drop start s)) ≡ end - start = length-take-le (end - start) (drop start s) (omega (arith, length-drop start s)) in
+      omega (arith, cookie-inside (take (end - start) (drop start s)) l walked c k .within, long)
 
 -- ---- checks 5 to 7
 
