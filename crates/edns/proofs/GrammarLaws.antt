@@ -13,7 +13,7 @@ use Rattle.octets.proofs.PartLaws.{Stands, Spans, join, left, right, all-stands
 use Rattle.octets.proofs.RefusalLaws.{is-some}
 use Rattle.octets.specs.Refusals.{isNone}
 use Rattle.edns.specs.Options.{fields, optionAt, optionsIn, optionsFrom, options, optionPast}
-use Rattle.edns.specs.Grammar.{AnOption, Run, Said, sayingOf, sayings, said, NineExactlyWhen, ListedAreThese}
+use Rattle.edns.specs.Grammar.{AnOption, Run, Said, sayingOf, sayings, said, NineExactlyWhen, ListedAreThese, AtEveryPlace}
 use Rattle.edns.specs.Grammar.AnOption.{an-option}
 use Rattle.edns.specs.Grammar.Run.{nothing, more}
 use Rattle.edns.specs.declared.EdnsOption.{EdnsOption}
@@ -128,3 +128,12 @@ nine-exactly-when d = (run-told d, λ run. ap isNone (all-found d run .1))
 
 pub listed-are-these : ListedAreThese
 listed-are-these d run = let all = all-found d run in rw (all .1) (all .2)
+
+-- ---- at every place
+
+pub at-every-place : AtEveryPlace
+at-every-place d at end =
+    record {
+      found-stands = λ o e. let x = option-spans d at o e .0 in record { part = x .part; here = x .stands .here; ends = x .stands .ends; holds = x .holds };
+      standing-found = λ x. let f = option-found d at (x .part) (x .holds) end (record { here = x .here; ends = x .ends }) in (f .the, f .found, f .ends, f .says);
+    }

@@ -68,7 +68,7 @@ pub record OptionCases : Type 0 where
   pub before-cookie : cookieIn (0 ∷ 3 ∷ 0 ∷ 13 ∷ client) ≡ refused 9
   pub most : cookieIn (0 ∷ 3 ∷ 255 ∷ 255 ∷ client) ≡ refused 9
 
--- every length of a COOKIE body from 0 to 63
+-- every length of a COOKIE body from 0 to 63, and every longer one
 pub record LengthsHold : Type 0 where
   pub lengths : map isCookieLength (upTo 0 64) ≡ replicate 8 false ++ (true ∷ replicate 7 false) ++ replicate 25 true ++ replicate 23 false
   pub longer : (n : ℕ) → 41 ≤ n → isCookieLength n ≡ false

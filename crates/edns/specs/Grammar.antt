@@ -4,9 +4,11 @@ use Prim.Native.Nat.{ℕ, _-_}
 use mathlib.Core.Path.{_≡_}
 use mathlib.Core.Bool.{false}
 use mathlib.Core.List.{List, [], _∷_, _++_, map}
+use mathlib.Core.Option.{some}
 use lib.ListN.{length, take, drop}
 use Rattle.octets.specs.Numbers.{beNumber}
-use Rattle.edns.specs.Options.{optionsOf, optionPast}
+use Rattle.octets.specs.Runs.{Standing}
+use Rattle.edns.specs.Options.{optionAt, optionsOf, optionPast}
 use Rattle.edns.specs.declared.EdnsOption.{EdnsOption}
 
 -- ---- the shape
@@ -49,3 +51,12 @@ NineExactlyWhen = (d : List ℕ) → (optionPast d ≡ false → Run d) × (Run 
 -- and of those the definitions list the options that are there, in their order
 abbrev pub ListedAreThese : Type 0
 ListedAreThese = (d : List ℕ) (run : Run d) → map (said d) (optionsOf d) ≡ sayings run
+
+-- an option that is found at a place stands there, and one that stands there is found and says what it says
+pub record OptionHere (d : List ℕ) (at end : ℕ) : Type 0 where
+  pub found-stands : (o : EdnsOption) → optionAt d at ≡ some o → Standing AnOption d at (o .end)
+  pub standing-found : (standing : Standing AnOption d at end) → (o : EdnsOption) × (optionAt d at ≡ some o) × (o .end ≡ end) × (said d o ≡ sayingOf (standing .holds))
+
+-- at every place
+abbrev pub AtEveryPlace : Type 0
+AtEveryPlace = (d : List ℕ) (at end : ℕ) → OptionHere d at end

@@ -1,5 +1,5 @@
-// The options in the data of an OPT record (RFC 6891), and the first COOKIE option among them (RFC 7873). Every function takes any
-// bytes and any place, and ends.
+// The options in the data of an OPT record (RFC 6891), and the first COOKIE option among them (RFC 7873). Every public function
+// takes any bytes and any place, and ends.
 mod options;
 
 pub use options::is_cookie_length;
@@ -18,7 +18,7 @@ pub enum Found {
     Past,
 }
 
-// Where the body of the first COOKIE option lies in the data.
+// Where the body of the first COOKIE option lies: in the data, or in the message that the data is a part of.
 pub struct Cookie {
     pub start: usize,
     pub end: usize,

@@ -37,6 +37,7 @@ name-cases =
       no-end = refl;
       label-past = refl;
       label-just-past = refl;
+      many-labels = refl;
       every-byte = refl;
     }
 
@@ -86,6 +87,7 @@ message-cases =
       the-last = refl;
       behind-sections = refl;
       other-type = refl;
+      type-is-2-bytes = refl;
       next-type = refl;
       in-answer = refl;
       in-authority = refl;
@@ -98,6 +100,11 @@ message-cases =
       second = refl;
       second-later = refl;
       third = refl;
+      response-opt = refl;
+      response-in-answer = refl;
+      response-foreign = refl;
+      response-second = refl;
+      response-over = refl;
       six-first = refl;
       six-first-over = refl;
     }

@@ -12,13 +12,14 @@ use lib.Dec.{eqb, leb}
 use lib.ListN.{length, drop, getD, length-append, List·getD-eq-default}
 use lib.Seq.{drop-length}
 use Rattle.octets.specs.Numbers.{beNumber, be16At}
+use Rattle.octets.specs.Runs.{Standing}
 use Rattle.octets.proofs.PartLaws.{Stands, Spans, Bytes, join, left, right, all-stands, filled, taken, bytes, byte, byte-in, first-byte, number, bind-told, test-told}
 use Rattle.message.specs.Name.{within, isLabel, pastLabels, labelsEnd, terminator, nameEnd}
 use Rattle.message.specs.Record.{questionEnd, fields, whole, recordAt}
 use Rattle.octets.proofs.RefusalLaws.{is-some}
 use Rattle.octets.specs.Refusals.{isNone}
 use Rattle.message.specs.Message.{qdcount, ancount, nscount, arcount, questionsEnd, records, sections, malformed}
-use Rattle.message.specs.Grammar.{Name, Question, ARecord, Several, Header, WellFormed, SixExactlyWhen, Said, isRoot, sayingOf, sayings, questionsIn, sayingsBefore, sayingsAdditional, said, ListedAreThese}
+use Rattle.message.specs.Grammar.{Name, Question, ARecord, Several, Header, WellFormed, SixExactlyWhen, Said, isRoot, sayingOf, sayings, questionsIn, sayingsBefore, sayingsAdditional, said, ListedAreThese, AtEveryPlace}
 use Rattle.message.specs.Grammar.Name.{zero-byte, pointer, label}
 use Rattle.message.specs.Grammar.Question.{question}
 use Rattle.message.specs.Grammar.ARecord.{arecord}
@@ -456,3 +457,20 @@ six-exactly-when s = (well-formed s, λ w. ap isNone (all-found s w .found))
 
 pub listed-are-these : ListedAreThese
 listed-are-these s w = let all = all-found s w in record { say = rw (all .found) (all .says); before = all .before; asked = all .asked }
+
+-- ---- at every place
+
+standing : {P : List ℕ → Type 0} {s : List ℕ} {at end : ℕ} → Spans P s at end → Standing P s at end
+standing x = record { part = x .part; here = x .stands .here; ends = x .stands .ends; holds = x .holds }
+
+stands : {P : List ℕ → Type 0} {s : List ℕ} {at end : ℕ} → (x : Standing P s at end) → Stands s at end (x .part)
+stands x = record { here = x .here; ends = x .ends }
+
+pub at-every-place : AtEveryPlace
+at-every-place s at end =
+    record {
+      name = (λ e. standing (name-spans s end at e), λ x. name-found s (x .part) (x .holds) at end (stands x));
+      asked-there = (λ e. standing (question-spans s at end e), λ x. question-found s at (x .part) (x .holds) end (stands x));
+      found-stands = λ r e. standing (record-spans s at r e);
+      standing-found = λ x. let f = record-found s at (x .part) (x .holds) end (stands x) in (f .the, f .found, f .ends, f .says);
+    }

@@ -36,6 +36,11 @@ upTo at (suc n) = at ∷ upTo (suc at) n
 
 -- ---- names
 
+-- a name of n labels "a"
+abbrev pub labels : ℕ → List ℕ
+labels zero = 0 ∷ []
+labels (suc n) = 1 ∷ 97 ∷ labels n
+
 pub record NameCases : Type 0 where
   pub root : nameEnd (0 ∷ []) 0 ≡ some 1
   pub one-label : nameEnd (1 ∷ 97 ∷ 0 ∷ []) 0 ≡ some 3
@@ -51,6 +56,8 @@ pub record NameCases : Type 0 where
   pub no-end : nameEnd (1 ∷ 97 ∷ []) 0 ≡ none
   pub label-past : nameEnd (3 ∷ 97 ∷ 0 ∷ []) 0 ≡ none
   pub label-just-past : nameEnd (2 ∷ 97 ∷ 0 ∷ []) 0 ≡ none
+  -- no bound on a whole name: 200 labels
+  pub many-labels : nameEnd (labels 200) 0 ≡ some 401
   -- every first byte, before 255 zeros: 0 is the root; a label of n bytes and a zero end at n + 2; 64 to 191 is malformed; 192 to 255 is a pointer
   pub every-byte : map (λ (b : ℕ). nameEnd (b ∷ zeros 255) 0) (upTo 0 256)
       ≡ some 1 ∷ map (λ (n : ℕ). some n) (upTo 3 63) ++ replicate 128 none ++ replicate 64 (some 2)
@@ -79,6 +86,10 @@ pub record RecordCases : Type 0 where
 -- a header with these counts
 abbrev pub header : ℕ → ℕ → ℕ → ℕ → List ℕ
 header qd an ns ar = 0x12 ∷ 0x34 ∷ 0x01 ∷ 0x00 ∷ 0 ∷ qd ∷ 0 ∷ an ∷ 0 ∷ ns ∷ 0 ∷ ar ∷ []
+
+-- the same of a response: QR is 1
+abbrev pub response : ℕ → ℕ → ℕ → ℕ → List ℕ
+response qd an ns ar = 0x12 ∷ 0x34 ∷ 0x81 ∷ 0x80 ∷ 0 ∷ qd ∷ 0 ∷ an ∷ 0 ∷ ns ∷ 0 ∷ ar ∷ []
 
 -- "a", IN, A: 7 bytes
 abbrev pub question : List ℕ
@@ -134,6 +145,7 @@ pub record MessageCases : Type 0 where
   pub the-last : outline (header 0 0 0 2 ++ plain ++ opt) ≡ optAt 34
   pub behind-sections : outline (header 1 1 1 1 ++ question ++ plain ++ plain ++ opt) ≡ optAt 52
   pub other-type : outline (header 0 0 0 1 ++ 0 ∷ 41 ∷ 0 ∷ 4 ∷ 208 ∷ 0 ∷ 0 ∷ 0 ∷ 0 ∷ 0 ∷ 0 ∷ []) ≡ noOpt
+  pub type-is-2-bytes : outline (header 0 0 0 1 ++ 0 ∷ 1 ∷ 41 ∷ 4 ∷ 208 ∷ 0 ∷ 0 ∷ 0 ∷ 0 ∷ 0 ∷ 0 ∷ []) ≡ noOpt
   pub next-type : outline (header 0 1 0 0 ++ 0 ∷ 0 ∷ 42 ∷ 4 ∷ 208 ∷ 0 ∷ 0 ∷ 0 ∷ 0 ∷ 0 ∷ 0 ∷ []) ≡ noOpt
   -- 7: misplaced
   pub in-answer : outline (header 1 1 0 0 ++ question ++ opt) ≡ refused 7
@@ -149,6 +161,12 @@ pub record MessageCases : Type 0 where
   pub second : outline (header 1 0 0 2 ++ question ++ opt ++ opt) ≡ refused 7
   pub second-later : outline (header 1 0 0 3 ++ question ++ opt ++ plain ++ opt) ≡ refused 7
   pub third : outline (header 1 0 0 3 ++ question ++ opt ++ opt ++ opt) ≡ refused 7
+  -- the same of a response
+  pub response-opt : outline (response 1 1 0 1 ++ question ++ plain ++ opt) ≡ optAt 41
+  pub response-in-answer : outline (response 1 1 0 0 ++ question ++ opt) ≡ refused 7
+  pub response-foreign : outline (response 1 0 0 1 ++ question ++ foreign) ≡ refused 7
+  pub response-second : outline (response 1 0 0 2 ++ question ++ opt ++ opt) ≡ refused 7
+  pub response-over : outline (response 1 0 0 1 ++ question ++ opt ++ 0 ∷ []) ≡ refused 6
   -- 6 covers the whole message before 7 is tried
   pub six-first : outline (header 1 0 0 3 ++ question ++ opt ++ opt ++ cut) ≡ refused 6
   pub six-first-over : outline (header 1 1 0 0 ++ question ++ opt ++ 0 ∷ []) ≡ refused 6

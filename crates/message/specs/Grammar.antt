@@ -4,9 +4,13 @@ use Prim.Native.Nat.{ℕ, suc, _+_, _-_, _≤_}
 use mathlib.Core.Path.{_≡_}
 use mathlib.Core.Bool.{Bool, true, false}
 use mathlib.Core.List.{List, [], _∷_, _++_, map}
+use mathlib.Core.Option.{some}
 use lib.ListN.{length, take, drop, getD}
 use Rattle.octets.specs.Numbers.{beNumber}
+use Rattle.octets.specs.Runs.{Standing}
 use Rattle.message.specs.Message.{qdcount, ancount, nscount, recordsOf, malformed}
+use Rattle.message.specs.Name.{nameEnd}
+use Rattle.message.specs.Record.{questionEnd, recordAt}
 use Rattle.message.specs.declared.Record.{Record}
 
 -- ---- the shape
@@ -102,3 +106,16 @@ pub record RecordsAre (s : List ℕ) (w : WellFormed s) : Type 0 where
 -- for every well-formed message
 abbrev pub ListedAreThese : Type 0
 ListedAreThese = (s : List ℕ) (w : WellFormed s) → RecordsAre s w
+
+-- ---- the same at every place of any bytes, for the functions that take a place
+
+-- a name or a question ends here exactly when one stands there; a record that is found stands there, and one that stands there is found and says what it says
+pub record EndsHere (s : List ℕ) (at end : ℕ) : Type 0 where
+  pub name : (nameEnd s at ≡ some end → Standing Name s at end) × (Standing Name s at end → nameEnd s at ≡ some end)
+  pub asked-there : (questionEnd s at ≡ some end → Standing Question s at end) × (Standing Question s at end → questionEnd s at ≡ some end)
+  pub found-stands : (r : Record) → recordAt s at ≡ some r → Standing ARecord s at (r .end)
+  pub standing-found : (standing : Standing ARecord s at end) → (r : Record) × (recordAt s at ≡ some r) × (r .end ≡ end) × (said s r ≡ sayingOf (standing .holds))
+
+-- for every place
+abbrev pub AtEveryPlace : Type 0
+AtEveryPlace = (s : List ℕ) (at end : ℕ) → EndsHere s at end

@@ -1,5 +1,5 @@
-// The DNS message (RFC 1035) up to its OPT record (RFC 6891): names, questions, records, and which record is the OPT. Every function
-// takes any bytes and any place, and ends. A pointer ends a name and is not followed, so that no byte is read twice.
+// The DNS message (RFC 1035) up to its OPT record (RFC 6891): names, questions, records, and which record is the OPT. Every
+// public function takes any bytes and any place, and ends. A pointer ends a name and is not followed, so that a walk only goes forward.
 mod names;
 mod records;
 mod sections;
@@ -28,6 +28,7 @@ pub struct Record {
     pub end: usize,
 }
 
+// The record at a place, or that none is whole there.
 pub enum Found {
     Whole(Record),
     Cut,

@@ -1,4 +1,5 @@
--- Cases that pin the definitions of Numbers.antt, Runs.antt and Refusals.antt, bytes and numbers written out. The number is the timestamp of RFC 9018's first vector
+-- Cases that pin the definitions of Numbers.antt, Runs.antt and Refusals.antt, bytes and numbers written out (`FirstIs` and `NoneApplies` are tied to `first`
+-- by laws, both ways). The number is the timestamp of RFC 9018's first vector
 -- (P1 of document 01), the word that of the key in the SipHash paper, appendix A. Assumes nothing.
 use mathlib.Core.Path.{_≡_}
 use mathlib.Core.Bool.{true, false}

@@ -1,6 +1,7 @@
 -- Runs of bytes: whether two are equal, and one written at a place of a buffer. No paper: these are this project's own words for what the rules
 -- of document 01 compare and write. Assumes nothing.
 use Prim.Native.Nat.{ℕ, _+_}
+use mathlib.Core.Path.{_≡_}
 use mathlib.Core.Bool.{Bool, true, false, cond, _&&_}
 use mathlib.Core.List.{List, [], _∷_, _++_}
 use lib.Dec.{eqb, leb}
@@ -20,3 +21,10 @@ fits buffer at run = leb (at + length run) (length buffer)
 -- the buffer with a run in it from a place on, and every other byte as it was; the whole as it was if the run does not fit
 unfoldable pub written : List ℕ → ℕ → List ℕ → List ℕ
 written buffer at run = cond (fits buffer at run) (take at buffer ++ run ++ drop (at + length run) buffer) buffer
+
+-- a part of this kind stands in the bytes from `at` up to `end`
+pub record Standing (P : List ℕ → Type 0) (s : List ℕ) (at end : ℕ) : Type 0 where
+  pub part : List ℕ
+  pub here : drop at s ≡ part ++ drop end s
+  pub ends : end ≡ at + length part
+  pub holds : P part

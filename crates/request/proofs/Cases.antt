@@ -7,7 +7,7 @@ use borrow.Author.Tests.{lt-ltb, le-ltb, le-leb, lt-leb}
 use lib.ListN.{length}
 use Rattle.octets.specs.Numbers.{beNumber, beBytes, printed}
 use Rattle.edns.specs.Options.{optionAt, optionsIn, optionsFrom, firstCookie, isCookieLength}
-use Rattle.message.specs.Message.{questionsEnd, records, sections, wrongAmong}
+use Rattle.message.specs.Message.{qdcount, questionsEnd, records, sections, wrongAmong}
 use Rattle.message.specs.Name.{pastLabels, labelsEnd, terminator, nameEnd}
 use Rattle.message.specs.Record.{questionEnd, recordAt}
 use Rattle.request.specs.Cases.{NamesHold, TableHolds, RequestCases}
@@ -39,6 +39,8 @@ table-holds =
       too-long = λ s long. simp (lt-ltb 65535 (length s) (omega arith), or-true);
       query = λ a b flags rest low. lt-leb 128 flags (omega arith);
       response = λ a b flags rest high. le-leb 128 flags high;
+      few-questions = λ s few. le-ltb 1 (qdcount s) few;
+      many-questions = λ s many. lt-ltb 1 (qdcount s) (omega arith);
       no-part = λ s n. refl;
       no-part-either = λ s q. refl;
       the-part = refl;
@@ -79,7 +81,7 @@ request-cases =
       seven-owner = refl;
       seven-eight = refl;
       eight = refl;
-      eight-255 = refl;
+      versions = refl;
       eight-nine = refl;
       nine = refl;
       nine-later = refl;

@@ -18,7 +18,7 @@ use Rattle.edns.specs.declared.EdnsOption.{EdnsOption}
 use Rattle.message.proofs.Within.{DataInside, opts-within}
 use Rattle.message.specs.Message.{qdcount, ancount, nscount, sections, recordsOf, opts, isAny, isSecond, anyForeign, wrongAmong}
 use Rattle.message.specs.declared.Record.{Record}
-use Rattle.request.specs.Claims.{TheFirstIsGiven, NoCookies, TheOpt, TheCookie, WithoutCookie, no-opt, no-option, TheFirstIsFound}
+use Rattle.request.specs.Claims.{TheFirstIsGiven, NoCookies, OnlyOpt, TheCookie, WithoutCookie, no-opt, no-option, TheFirstIsFound}
 use Rattle.request.specs.Request.{optsIn, cookieOf, dataOf, optData, versionOf, checks, Answer, refused, noCookie, cookie, startOf, found, foundIn, request, bodyAt, cookieBody}
 
 -- ---- answers
@@ -94,7 +94,7 @@ Told s (refused n) = Unit {0}
 Told s (noCookie q) = (q ≡ qdcount s) × WithoutCookie s
 Told s (cookie q a e) = (q ≡ qdcount s) × TheCookie s a e
 
-module _ (s : List ℕ) (all : List Record) (opt : Record) (the-opt : TheOpt s all opt) (os : List EdnsOption) (listed : options (dataOf s opt) ≡ some os) where
+module _ (s : List ℕ) (all : List Record) (opt : Record) (the-opt : OnlyOpt s all opt) (os : List EdnsOption) (listed : options (dataOf s opt) ≡ some os) where
   told-cookie : (c : Option EdnsOption) → Split os c → IfOne (BodyInside (length (dataOf s opt))) c → Told s (found (qdcount s) (opt .start) c)
   told-cookie none is i = (refl, no-option all opt the-opt os listed is)
   told-cookie (some o) is i =
@@ -130,7 +130,7 @@ module _ (s : List ℕ) where
   told-opts all sectioned before [] is owned single version whole inside = (refl, no-opt all sectioned is)
   told-opts all sectioned before (r ∷ []) is owned single version whole inside =
       let one : (os : List EdnsOption) × (options (dataOf s r) ≡ some os) = is-some (options (dataOf s r)) whole in
-      let the-opt : TheOpt s all r = record {
+      let the-opt : OnlyOpt s all r = record {
         sectioned = sectioned;
         only = is;
         none-before = before;

@@ -23,8 +23,8 @@ use Rattle.message.proofs.Within.{DataInside, opts-within}
 use Rattle.message.specs.Grammar.{WellFormed, Said, sayingsBefore, sayingsAdditional, said}
 use Rattle.message.specs.Message.{qdcount, ancount, nscount, recordsOf, malformed, isOpt, opts, isAny, isSecond, anyForeign, wrongAmong, wrongOpt}
 use Rattle.message.specs.declared.Record.{Record}
-use Rattle.request.specs.Request.{optsIn, dataOf, optData, versionOf, isIllegal, wrongSize, isResponse, manyQuestions, wrongVersion, wrongCookie, checks, Answer, refused, noCookie, cookie, startOf, found, foundIn, request, bodyAt, cookieBody}
-use Rattle.request.specs.Shape.{optsAmong, wrongOpts, theOpt, optIn, firstBody, wrongBody, rowsTo5, rows7And8, Told, refusal, passed, told, Reads, ReadByShape}
+use Rattle.request.specs.Request.{optsIn, dataOf, optData, versionOf, isIllegal, wrongSize, isResponse, manyQuestions, wrongVersion, wrongCookie, checksFrom6, checks, Answer, refused, noCookie, cookie, startOf, found, foundIn, request, bodyAt, cookieBody}
+use Rattle.request.specs.Shape.{optsAmong, wrongOpts, optOrEmpty, optIn, firstBody, wrongBody, rowsTo5, rows7And8, Told, refusal, passed, told, Reads, ReadByShape}
 
 -- ---- lists
 
@@ -73,11 +73,11 @@ module _ (s : List ℕ) where
       wrong-said all ∙ ap (wrongOpts []) all-is ∙ ap (λ (l : List Said). wrongOpts l additional) b
   wrong-is (r ∷ rs) all before additional b e = ap (λ (l : List Said). wrongOpts l additional) b
 
-  version-said : (os : List Record) → versionOf os ≡ theOpt (map (said s) os) .version
+  version-said : (os : List Record) → versionOf os ≡ optOrEmpty (map (said s) os) .version
   version-said [] = refl
   version-said (r ∷ rs) = refl
 
-  data-said : (os : List Record) → optData s os ≡ theOpt (map (said s) os) .rdata
+  data-said : (os : List Record) → optData s os ≡ optOrEmpty (map (said s) os) .rdata
   data-said [] = refl
   data-said (r ∷ rs) = refl
 
@@ -140,13 +140,18 @@ module _ (s : List ℕ) where
         finds = finds ∙ ap (passed (qdcount s)) (body-is d run);
       }
 
-  listed-said : (os : List Record) → Each (DataInside (length s)) os → (run : Run (theOpt (map (said s) os) .rdata)) → Listed os (firstBody (sayings run))
+  listed-said : (os : List Record) → Each (DataInside (length s)) os → (run : Run (optOrEmpty (map (said s) os) .rdata)) → Listed os (firstBody (sayings run))
   unfolding optionsFrom optionsIn firstCookie
   listed-said [] inside run = listed-by [] run refl
   listed-said (r ∷ rs) inside run =
       listed-by (r ∷ rs) run (found-is s r (qdcount s) (inside .0) (cookieFrom (r ∷ rs)) (cookie-within (dataOf s r)))
 
 -- ---- from the number to the answer
+
+-- behind one that does not apply
+past-row : (b : Bool) (n k : ℕ) → cond b (suc n) k ≡ 0 → k ≡ 0
+past-row true n k e = absurd (omega (arith, e))
+past-row false n k e = e
 
 toldBody : Told → List ℕ
 toldBody (refusal n) = []
@@ -168,22 +173,24 @@ module _ (s : List ℕ) where
   body-answered zero q body = refl
   body-answered (suc k) q body = refl
 
-  reads : (rows : List Row) (body : Option (List ℕ)) → first (checks s) ≡ first (rowsTo5 s ++ rows)
-      → (first (rowsTo5 s ++ rows) ≡ 0 → told s (foundIn s) ≡ passed (qdcount s) body) → Reads s rows body
+  abbrev behind5 : ℕ → ℕ
+  behind5 k = cond (wrongSize s) 3 (cond (isResponse s) 4 (cond (manyQuestions s) 5 k))
+
+  past-5 : (k : ℕ) → behind5 k ≡ 0 → k ≡ 0
+  past-5 k e = past-row (manyQuestions s) 4 k (past-row (isResponse s) 3 _ (past-row (wrongSize s) 2 _ e))
+
+  reads : (rows : List Row) (body : Option (List ℕ)) → first (checksFrom6 s) ≡ first rows
+      → (first rows ≡ 0 → told s (foundIn s) ≡ passed (qdcount s) body) → Reads s rows body
   unfolding request cookieBody
-  reads rows body number finds =
+  reads rows body from-6 finds =
+      let number : first (checks s) ≡ first (rowsTo5 s ++ rows) = ap behind5 from-6 in
       let k = first (rowsTo5 s ++ rows) in
       let p = passed (qdcount s) body in
       let answer : told s (request s) ≡ answered refusal k p =
-      ap (λ (n : ℕ). told s (answered refused n (foundIn s))) number ∙ told-answered k (foundIn s) p finds in
-      record { number = number; answer = answer; part = body-told (request s) ∙ ap toldBody answer ∙ body-answered k (qdcount s) body }
+      ap (λ (n : ℕ). told s (answered refused n (foundIn s))) number ∙ told-answered k (foundIn s) p (λ e. finds (past-5 (first rows) e)) in
+      record { from-6 = from-6; finds = finds; number = number; answer = answer; part = body-told (request s) ∙ ap toldBody answer ∙ body-answered k (qdcount s) body }
 
 -- ---- rows
-
--- behind one that does not apply
-past-row : (b : Bool) (n k : ℕ) → cond b (suc n) k ≡ 0 → k ≡ 0
-past-row true n k e = absurd (omega (arith, e))
-past-row false n k e = e
 
 -- with an OPT before the additional section 7 applies, whatever stands behind it
 rows-from-6 : (before additional : List Said) (six seven : Bool) (k m : ℕ) → six ≡ false → seven ≡ wrongOpts before additional → (before ≡ [] → k ≡ m)
@@ -202,19 +209,13 @@ is-true false never = absurd (never refl)
 -- ---- the cases
 
 module _ (s : List ℕ) where
-  abbrev behind5 : ℕ → ℕ
-  behind5 k = cond (wrongSize s) 3 (cond (isResponse s) 4 (cond (manyQuestions s) 5 k))
-
-  past-5 : (k : ℕ) → behind5 k ≡ 0 → k ≡ 0
-  past-5 k e = past-row (manyQuestions s) 4 k (past-row (isResponse s) 3 _ (past-row (wrongSize s) 2 _ e))
-
   abbrev from7 : ℕ
   from7 = first (7 when wrongOpt s ∷ 8 when wrongVersion s ∷ 9 when optionPast (optData s (optsIn s)) ∷ 10 when wrongCookie s ∷ [])
 
   read-malformed : (WellFormed s → ⊥) → Reads s (6 when true ∷ []) none
   read-malformed never =
       let six : malformed s ≡ true = is-true (malformed s) (λ e. never (six-exactly-when s .0 e)) in
-      reads s (6 when true ∷ []) none (ap (λ (b : Bool). behind5 (cond b 6 from7)) six) (λ e. absurd (omega (arith, past-5 6 e)))
+      reads s (6 when true ∷ []) none (ap (λ (b : Bool). cond b 6 from7) six) (λ e. absurd (omega (arith, e)))
 
   module _ (w : WellFormed s) where
     abbrev before : List Said
@@ -243,10 +244,10 @@ module _ (s : List ℕ) where
     opts-are e = opts-all ∙ ap (λ (l : List Said). l ++ additional) e
 
     version-is : before ≡ [] → versionOf (optsIn s) ≡ optIn w .version
-    version-is e = version-said s (optsIn s) ∙ ap (λ (l : List Said). theOpt l .version) (opts-are e)
+    version-is e = version-said s (optsIn s) ∙ ap (λ (l : List Said). optOrEmpty l .version) (opts-are e)
 
     data-is : before ≡ [] → optData s (optsIn s) ≡ optIn w .rdata
-    data-is e = data-said s (optsIn s) ∙ ap (λ (l : List Said). theOpt l .rdata) (opts-are e)
+    data-is e = data-said s (optsIn s) ∙ ap (λ (l : List Said). optOrEmpty l .rdata) (opts-are e)
 
     abbrev from9 : ℕ
     from9 = first (9 when optionPast (optData s (optsIn s)) ∷ 10 when wrongCookie s ∷ [])
@@ -258,11 +259,10 @@ module _ (s : List ℕ) where
         let from8 = first (8 when not (eqb (optIn w .version) 0) ∷ row ∷ []) in
         let from6-is = rows-from-6 before additional (malformed s) (wrongOpt s) (cond (wrongVersion s) 8 from9) from8 (six-exactly-when s .1 w) seven-is
         (λ e. rw (version-is e, is e)) in
-        reads s (rows7And8 w ++ row ∷ []) body (ap behind5 from6-is)
+        reads s (rows7And8 w ++ row ∷ []) body from6-is
         (λ e.
-        let seven = past-5 (cond (wrongOpts before additional) 7 from8) e in
-        let eight = past-row (wrongOpts before additional) 6 from8 seven in
-        finds (none-before before additional from8 seven) (past-row (not (eqb (optIn w .version) 0)) 7 (first (row ∷ [])) eight))
+        let eight = past-row (wrongOpts before additional) 6 from8 e in
+        finds (none-before before additional from8 e) (past-row (not (eqb (optIn w .version) 0)) 7 (first (row ∷ [])) eight))
 
     read-past : (Run (optIn w .rdata) → ⊥) → Reads s (rows7And8 w ++ 9 when true ∷ []) none
     read-past never =
@@ -274,7 +274,7 @@ module _ (s : List ℕ) where
     read-whole run =
         let body = firstBody (sayings run) in
         let listed : before ≡ [] → Listed s (optsIn s) body = λ e.
-        subst (λ (l : List Said). (r : Run (theOpt l .rdata)) → Listed s (optsIn s) (firstBody (sayings r))) (opts-are e) (listed-said s (optsIn s) (opts-within s)) run in
+        subst (λ (l : List Said). (r : Run (optOrEmpty l .rdata)) → Listed s (optsIn s) (firstBody (sayings r))) (opts-are e) (listed-said s (optsIn s) (opts-within s)) run in
         read-opt (10 when wrongBody body) body (λ e. rw (listed e .nine, listed e .ten)) (λ e f. listed e .finds)
 
 decided : {A : Type 0} (b : Bool) → (b ≡ false → A) → (A → b ≡ false) → Dec A

@@ -1,5 +1,5 @@
--- Cases that pin the definitions of Request.antt and Answers.antt: for each check a message to which only it applies, and one to which the next applies too
--- and it wins. Assumes nothing.
+-- Cases that pin the definitions of Request.antt and Answers.antt: for each check messages that it refuses, and one in which a student would see the next
+-- check's reason too. Assumes nothing.
 use mathlib.Core.Path.{_≡_}
 use mathlib.Core.Bool.{true, false}
 use mathlib.Core.List.{List, [], _∷_, _++_, map}
@@ -7,9 +7,10 @@ use Prim.Native.Nat.{ℕ, zero, suc, _+_, _≤_}
 use lib.ListN.{length, replicate}
 use Rattle.octets.specs.Numbers.{beBytes, printed}
 use Rattle.octets.specs.Refusals.{Row}
+use Rattle.message.specs.Message.{qdcount}
 use Rattle.edns.specs.declared.Cookie.{Cookie}
 use Rattle.request.specs.Answers.{refusalNumber, answerOf}
-use Rattle.request.specs.Request.{wrongSize, isResponse, checks, headChecks, refused, noCookie, cookie, request, bodyAt, cookieBody}
+use Rattle.request.specs.Request.{wrongSize, isResponse, manyQuestions, checks, headChecks, refused, noCookie, cookie, request, bodyAt, cookieBody}
 use Rattle.request.specs.declared.Reading.the-variants as reading-as
 use Rattle.request.specs.declared.Refusal.{Refusal}
 use Rattle.request.specs.declared.Refusal.the-variants.{Size, Response, Questions, Malformed, WrongOpt, Version, OptionPast, CookieLength}
@@ -33,7 +34,7 @@ abbrev pub numbers : List Row → List ℕ
 numbers [] = []
 numbers (r ∷ rows) = r .number ∷ numbers rows
 
--- the table, for every message; sizes, QR and the finder's part, likewise
+-- the table, for every message; sizes, QR, QDCOUNT and the finder's part, likewise
 pub record TableHolds : Type 0 where
   pub in-order : (s : List ℕ) → numbers (checks s) ≡ 3 ∷ 4 ∷ 5 ∷ 6 ∷ 7 ∷ 8 ∷ 9 ∷ 10 ∷ []
   pub in-disabled : (s : List ℕ) → numbers (headChecks s) ≡ 3 ∷ 4 ∷ []
@@ -42,6 +43,8 @@ pub record TableHolds : Type 0 where
   pub too-long : (s : List ℕ) → 65536 ≤ length s → wrongSize s ≡ true
   pub query : (a b flags : ℕ) (rest : List ℕ) → flags ≤ 127 → isResponse (a ∷ b ∷ flags ∷ rest) ≡ false
   pub response : (a b flags : ℕ) (rest : List ℕ) → 128 ≤ flags → isResponse (a ∷ b ∷ flags ∷ rest) ≡ true
+  pub few-questions : (s : List ℕ) → qdcount s ≤ 1 → manyQuestions s ≡ false
+  pub many-questions : (s : List ℕ) → 2 ≤ qdcount s → manyQuestions s ≡ true
   pub no-part : (s : List ℕ) (n : ℕ) → bodyAt s (refused n) ≡ []
   pub no-part-either : (s : List ℕ) (q : ℕ) → bodyAt s (noCookie q) ≡ []
   pub the-part : bodyAt (1 ∷ 2 ∷ 3 ∷ 4 ∷ 5 ∷ []) (cookie 1 1 4) ≡ 2 ∷ 3 ∷ 4 ∷ []
@@ -129,7 +132,7 @@ pub record RequestCases : Type 0 where
   pub seven-eight : request (header 1 1 0 0 2 ++ question ++ opt 1 [] ++ opt 1 []) ≡ refused 7
   -- 8, alone and before 9
   pub eight : request (header 1 1 0 0 1 ++ question ++ opt 1 (cookies 8)) ≡ refused 8
-  pub eight-255 : request (header 1 1 0 0 1 ++ question ++ opt 255 []) ≡ refused 8
+  pub versions : map (λ (v : ℕ). request (header 1 1 0 0 1 ++ question ++ opt v [])) (upTo 0 256) ≡ noCookie 1 ∷ replicate 255 (refused 8)
   pub eight-nine : request (header 1 1 0 0 1 ++ question ++ opt 1 past) ≡ refused 8
   -- 9, alone and before 10
   pub nine : request (asking past) ≡ refused 9

@@ -33,8 +33,8 @@ abbrev pub NoCookies : List EdnsOption → Type 0
 NoCookies [] = Unit {0}
 NoCookies (o ∷ os) = (o .code ≡ 10 → ⊥) × NoCookies os
 
--- the records of a message that check 6 lets through, and its one OPT: owned by the root, in the additional section, its data in the message
-pub record TheOpt (s : List ℕ) (all : List Record) (opt : Record) : Type 0 where
+-- the records of a message that check 6 lets through, and its one OPT: in the additional section, owned by the root, of version 0, its data in the message
+pub record OnlyOpt (s : List ℕ) (all : List Record) (opt : Record) : Type 0 where
   pub sectioned : sections s ≡ some all
   pub only : opts all ≡ opt ∷ []
   pub none-before : opts (take (ancount s + nscount s) all) ≡ []
@@ -47,7 +47,7 @@ pub record TheOpt (s : List ℕ) (all : List Record) (opt : Record) : Type 0 whe
 pub record TheCookie (s : List ℕ) (start end : ℕ) : Type 0 where
   pub all : List Record
   pub opt : Record
-  pub the-opt : TheOpt s all opt
+  pub the-opt : OnlyOpt s all opt
   pub before : List EdnsOption
   pub option : EdnsOption
   pub after : List EdnsOption
@@ -62,7 +62,7 @@ pub record TheCookie (s : List ℕ) (start end : ℕ) : Type 0 where
 -- there is no OPT, or none of its options has code 10
 pub data WithoutCookie (s : List ℕ) : Type 0 where
   no-opt : (all : List Record) → sections s ≡ some all → opts all ≡ [] → WithoutCookie s
-  no-option : (all : List Record) (opt : Record) → TheOpt s all opt → (os : List EdnsOption) → options (dataOf s opt) ≡ some os → NoCookies os → WithoutCookie s
+  no-option : (all : List Record) (opt : Record) → OnlyOpt s all opt → (os : List EdnsOption) → options (dataOf s opt) ≡ some os → NoCookies os → WithoutCookie s
 
 -- the claim: what is found is that, QDCOUNT is told, and the finder hands back that part of the message and otherwise an empty one
 pub record FoundIsTheFirst (s : List ℕ) : Type 0 where

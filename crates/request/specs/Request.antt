@@ -1,5 +1,6 @@
 -- Reading a request: document 01, "Reading a request" and "Answer numbers for a request", checks 3 to 10. Each check is a predicate on the whole message, and
--- `checks` is their order. A predicate says something of every list of bytes, also where an earlier check refuses it. Assumes nothing.
+-- `checks` is their order. A predicate says something of every list of bytes; 7 to 10 are false where 6 is true, and 10 where 9 is, since
+-- nothing is listed there. Assumes nothing.
 use Prim.Native.Nat.{ℕ, _+_, _-_}
 use mathlib.Core.Bool.{Bool, false, not, _||_}
 use mathlib.Core.List.{List, [], _∷_, _++_}
@@ -76,16 +77,19 @@ headChecks s =
     ∷ 4 when isResponse s
     ∷ []
 
--- and those that do not
-abbrev pub restChecks : List ℕ → List Row
-restChecks s =
-    5 when manyQuestions s
-    ∷ 6 when malformed s
+-- those on the whole message
+abbrev pub checksFrom6 : List ℕ → List Row
+checksFrom6 s =
+    6 when malformed s
     ∷ 7 when wrongOpt s
     ∷ 8 when wrongVersion s
     ∷ 9 when optionPast (optData s (optsIn s))
     ∷ 10 when wrongCookie s
     ∷ []
+
+-- those that mode Disabled skips
+abbrev pub restChecks : List ℕ → List Row
+restChecks s = 5 when manyQuestions s ∷ checksFrom6 s
 
 -- all of them
 abbrev pub checks : List ℕ → List Row

@@ -1,5 +1,6 @@
 -- Reading a request by shape: checks 6 to 10 of document 01 and the body that is handed back, over message/specs/Grammar.antt and edns/specs/Grammar.antt,
--- with no places. The claim at the end: `request` and `cookieBody` say the same, for every list of bytes. Assumes nothing.
+-- with no places. Rows 3 to 5, QDCOUNT and the legal lengths are those of the definitions, pinned for every value in the cases. The claim at the end:
+-- `request` and `cookieBody` say the same, for every list of bytes. Assumes nothing.
 use Prim.Native.Nat.{ℕ, _-_}
 use mathlib.Core.Path.{_≡_}
 use mathlib.Core.Bool.{Bool, true, false, not, cond}
@@ -13,7 +14,7 @@ use Rattle.edns.specs.Grammar as edns
 use Rattle.edns.specs.Options.{isCookieLength}
 use Rattle.message.specs.Grammar.{WellFormed, Said, sayingsBefore, sayingsAdditional}
 use Rattle.message.specs.Message.{qdcount}
-use Rattle.request.specs.Request.{wrongSize, isResponse, manyQuestions, checks, Answer, refused, noCookie, cookie, request, cookieBody}
+use Rattle.request.specs.Request.{wrongSize, isResponse, manyQuestions, checksFrom6, checks, Answer, refused, noCookie, cookie, foundIn, request, cookieBody}
 
 -- ---- what the records say
 
@@ -30,13 +31,13 @@ wrongOpts [] (opt ∷ second ∷ rest) = true
 wrongOpts (misplaced ∷ rest) additional = true
 
 -- the OPT among OPTs. None reads as one of version 0 without options
-abbrev pub theOpt : List Said → Said
-theOpt [] = record { root = true; kind = 41; version = 0; rdata = [] }
-theOpt (opt ∷ rest) = opt
+abbrev pub optOrEmpty : List Said → Said
+optOrEmpty [] = record { root = true; kind = 41; version = 0; rdata = [] }
+optOrEmpty (opt ∷ rest) = opt
 
 -- that of a message
 abbrev pub optIn : {s : List ℕ} → WellFormed s → Said
-optIn w = theOpt (optsAmong (sayingsAdditional w))
+optIn w = optOrEmpty (optsAmong (sayingsAdditional w))
 
 -- ---- what its options say
 
@@ -73,13 +74,16 @@ told s (cookie q start end) = passed q (some (take (end - start) (drop start s))
 
 -- ---- the claim
 
--- what a table makes of a message: rows 3 to 5 and then these are tried, and where none applies this body is found, or none is
+-- what a table makes of a message: these rows say what checks 6 to 10 say, whatever 3 to 5 do, and where none of them applies this body is found, or none is. So
+-- rows 3 to 5 and then these are tried
 pub record Reads (s : List ℕ) (rows : List Row) (body : Option (List ℕ)) : Type 0 where
+  pub from-6 : first (checksFrom6 s) ≡ first rows
+  pub finds : first rows ≡ 0 → told s (foundIn s) ≡ passed (qdcount s) body
   pub number : first (checks s) ≡ first (rowsTo5 s ++ rows)
   pub answer : told s (request s) ≡ answered refusal (first (rowsTo5 s ++ rows)) (passed (qdcount s) body)
   pub part : cookieBody s ≡ answered (λ n. []) (first (rowsTo5 s ++ rows)) (Option·getD body [])
 
--- the table by the shape. Every message has one: it is well-formed or not, and its OPT's RDATA is a run of options or not
+-- the table by the shape. One of the last three applies to each message, and `well-formed?` and `run?` say which
 pub record ByShape (s : List ℕ) : Type 0 where
   pub well-formed? : Dec (WellFormed s)
   pub run? : (w : WellFormed s) → Dec (Run (optIn w .rdata))

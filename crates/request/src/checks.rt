@@ -63,7 +63,7 @@ fn read_rest(message: &[u8]) -> Reading
     }
 }
 
-// Reads a request: checks 3 to 10.
+// Reads a request outside mode Disabled: checks 3 to 10.
 pub fn read(message: &[u8]) -> Reading
     ensures { λ r. ⌜ answerOf r ≡ request (now (message .entry)) ⌝ }
 {
