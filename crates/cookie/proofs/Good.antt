@@ -12,6 +12,7 @@ use lib.IntN.{ℤ, pos, negsuc}
 use lib.ListN.{length, take, drop, getD}
 use lib.Signed.{leZ, _≤ℤ_}
 use Rattle.octets.specs.Numbers.{be32At}
+use Rattle.octets.specs.Refusals.{answered}
 use Rattle.octets.specs.Runs.{sameRun}
 use Rattle.octets.proofs.RunLaws.{same-refl, same-true}
 use Rattle.edns.proofs.LengthLaws.{is-8, is-short, is-long, is-between}
@@ -24,7 +25,7 @@ use Rattle.cookie.specs.Claims.{HashedUnder, MatchedBy, AnAddress, IsGoo
 use Rattle.cookie.specs.Claims.AnAddress.{four, sixteen}
 use Rattle.verdict.specs.Serial.{age}
 use Rattle.verdict.specs.Findings.{Finding, isTimely, byTime}
-use Rattle.cookie.specs.ServerCookie.{CookieMethod, Answer, matches, matchingOther, matching, byHash, judgeBody, isAddress, isBody, checkingRefusal, answer, judgement}
+use Rattle.cookie.specs.ServerCookie.{CookieMethod, Answer, matches, matchingOther, matching, byHash, judgeBody, isAddress, isBody, checkingRefusal, judgement}
 use Rattle.cookie.specs.ServerCookie.Answer.{refused, found}
 use Rattle.verdict.specs.Findings.Finding.{ignored, absent, clientOnly, bad, good}
 use Rattle.verdict.specs.declared.Mode.{Mode}
@@ -151,7 +152,7 @@ true-address address e = go (eqb (length address) 4) refl e
     go true q h = four (eqb-true (length address) 4 q)
     go false q h = sixteen (eqb-true (length address) 16 h)
 
-by-tests : (s t : Bool) (v : Finding) → answer (cond (not s) 2 (cond (not t) 10 0)) v ≡ cond s (cond t (found v) (refused 10)) (refused 2)
+by-tests : (s t : Bool) (v : Finding) → answered refused (cond (not s) 2 (cond (not t) 10 0)) (found v) ≡ cond s (cond t (found v) (refused 10)) (refused 2)
 by-tests true true v = refl
 by-tests true false v = refl
 by-tests false t v = refl

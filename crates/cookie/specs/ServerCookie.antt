@@ -1,6 +1,6 @@
 -- The verdict on a COOKIE body: RFC 9018, section 4 (its draft, source 001, has the same number), and document 01, "The verdict". A COOKIE body is
 -- the client cookie, 8 bytes, and the server cookie; a server cookie of 16 bytes is version 1, reserved 3, timestamp 4, hash 8. Assumes nothing.
-use Prim.Native.Nat.{ℕ, zero, suc, _+_}
+use Prim.Native.Nat.{ℕ, _+_}
 use mathlib.Core.Bool.{Bool, true, false, not, cond, _&&_, _||_}
 use mathlib.Core.List.{List, [], _∷_, _++_}
 use mathlib.Core.Option.{Option, none, some}
@@ -8,7 +8,7 @@ use lib.Dec.{eqb}
 use lib.IntN.{ℤ}
 use lib.ListN.{length, take, drop, getD}
 use Rattle.octets.specs.Numbers.{be32At}
-use Rattle.octets.specs.Refusals.{_when_, first}
+use Rattle.octets.specs.Refusals.{_when_, first, answered}
 use Rattle.octets.specs.Runs.{sameRun}
 use Rattle.edns.specs.Options.{isCookieLength}
 use Rattle.secret.specs.declared.Secret.{Secret}
@@ -149,11 +149,6 @@ checkingRefusal mode address body =
     ∷ 10 when (not (isDisabled mode) && not (isBody body))
     ∷ [])
 
--- the refusal if there is one, otherwise the verdict
-abbrev pub answer : ℕ → Finding → Answer
-answer zero v = found v
-answer (suc n) v = refused (suc n)
-
--- the whole: what is answered to a COOKIE body
+-- the whole: what is answered to a COOKIE body, the refusal if there is one and otherwise the verdict
 unfoldable pub judgement : CookieMethod → Mode → Secrets → ℕ → List ℕ → List ℕ → Answer
-judgement m mode secrets clock address body = answer (checkingRefusal mode address body) (verdict m mode secrets clock address body)
+judgement m mode secrets clock address body = answered refused (checkingRefusal mode address body) (found (verdict m mode secrets clock address body))

@@ -9,7 +9,8 @@ use borrow.Author.Tests.{le-leb, lt-leb, leb-true}
 use lib.Dec.{leb}
 use lib.ListN.{length, drop, length-append, drop-of-length-le}
 use Rattle.octets.specs.Numbers.{beNumber, be16At}
-use Rattle.octets.proofs.PartLaws.{Stands, Spans, join, left, right, all-stands, filled, taken, bytes, number, bind-told, test-told}
+use Rattle.octets.specs.Runs.{Stands, Standing}
+use Rattle.octets.proofs.PartLaws.{join, left, right, all-stands, filled, taken, bytes, number, bind-told, test-told}
 use Rattle.octets.proofs.RefusalLaws.{is-some}
 use Rattle.octets.specs.Refusals.{isNone}
 use Rattle.edns.specs.Options.{fields, optionAt, optionsIn, optionsFrom, options, optionPast}
@@ -21,7 +22,7 @@ use Rattle.edns.specs.declared.EdnsOption.{EdnsOption}
 -- ---- one option
 
 module _ (d : List ℕ) (at : ℕ) where
-  option-here : (n : ℕ) → n ≡ be16At d (at + 2) → at + 4 + n ≤ length d → Spans AnOption d at (at + 4 + n)
+  option-here : (n : ℕ) → n ≡ be16At d (at + 2) → at + 4 + n ≤ length d → Standing AnOption d at (at + 4 + n)
   option-here n read fits =
       let code = bytes d at 2 (at + 2) refl (omega (arith, fits)) in
       let size = bytes d (at + 2) 2 (at + 4) (omega arith) (omega (arith, fits)) in
@@ -33,7 +34,7 @@ module _ (d : List ℕ) (at : ℕ) where
         holds = an-option (code .part) (size .part) (body .part) (code .holds) (size .holds) size-is;
       }
 
-  option-spans : (o : EdnsOption) → optionAt d at ≡ some o → Spans AnOption d at (o .end) × (at + 4 ≤ o .end)
+  option-spans : (o : EdnsOption) → optionAt d at ≡ some o → Standing AnOption d at (o .end) × (at + 4 ≤ o .end)
   unfolding optionAt
   option-spans o h =
       let test = test-told (at + 4 + be16At d (at + 2)) (length d) (fields d at) o h in
@@ -134,6 +135,6 @@ listed-are-these d run = let all = all-found d run in rw (all .1) (all .2)
 pub at-every-place : AtEveryPlace
 at-every-place d at end =
     record {
-      found-stands = λ o e. let x = option-spans d at o e .0 in record { part = x .part; here = x .stands .here; ends = x .stands .ends; holds = x .holds };
-      standing-found = λ x. let f = option-found d at (x .part) (x .holds) end (record { here = x .here; ends = x .ends }) in (f .the, f .found, f .ends, f .says);
+      found-stands = λ o e. option-spans d at o e .0;
+      standing-found = λ x. let f = option-found d at (x .part) (x .holds) end (x .stands) in (f .the, f .found, f .ends, f .says);
     }

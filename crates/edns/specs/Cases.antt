@@ -3,8 +3,9 @@ use mathlib.Core.Path.{_≡_}
 use mathlib.Core.Bool.{true, false}
 use mathlib.Core.List.{List, [], _∷_, _++_, map}
 use mathlib.Core.Option.{none, some}
-use Prim.Native.Nat.{ℕ, zero, suc, _≤_}
+use Prim.Native.Nat.{ℕ, _≤_}
 use lib.ListN.{replicate}
+use Rattle.octets.specs.Numbers.{upTo}
 use Rattle.edns.specs.Answers.{foundOf, listingOf}
 use Rattle.edns.specs.Options.{optionAt, options, isCookieLength, refused, noCookie, cookie, cookieIn}
 use Rattle.edns.specs.declared.Cookie.{Cookie}
@@ -20,18 +21,15 @@ pub record NamesHold : Type 0 where
   pub without : listingOf listing-as.NoCookie ≡ noCookie
   pub with-one : (c : Cookie) → listingOf (listing-as.First c) ≡ cookie (c .start) (c .end)
 
--- so many numbers from one on
-abbrev pub upTo : ℕ → ℕ → List ℕ
-upTo at zero = []
-upTo at (suc n) = at ∷ upTo (suc at) n
-
--- NSID (3) without a body, 4 bytes; COOKIE with a body of 8 bytes, 12; COOKIE with a body of 1 byte, 5
+-- NSID (3) without a body, 4 bytes
 abbrev pub nsid : List ℕ
 nsid = 0 ∷ 3 ∷ 0 ∷ 0 ∷ []
 
+-- COOKIE with a body of 8 bytes, 12 bytes
 abbrev pub client : List ℕ
 client = 0 ∷ 10 ∷ 0 ∷ 8 ∷ 0x24 ∷ 0x64 ∷ 0xc4 ∷ 0xab ∷ 0xcf ∷ 0x10 ∷ 0xc9 ∷ 0x57 ∷ []
 
+-- COOKIE with a body of 1 byte, 5 bytes
 abbrev pub short : List ℕ
 short = 0 ∷ 10 ∷ 0 ∷ 1 ∷ 0x24 ∷ []
 

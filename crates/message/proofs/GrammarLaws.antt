@@ -12,8 +12,8 @@ use lib.Dec.{eqb, leb}
 use lib.ListN.{length, drop, getD, length-append, List·getD-eq-default}
 use lib.Seq.{drop-length}
 use Rattle.octets.specs.Numbers.{beNumber, be16At}
-use Rattle.octets.specs.Runs.{Standing}
-use Rattle.octets.proofs.PartLaws.{Stands, Spans, Bytes, join, left, right, all-stands, filled, taken, bytes, byte, byte-in, first-byte, number, bind-told, test-told}
+use Rattle.octets.specs.Runs.{Stands, Standing}
+use Rattle.octets.proofs.PartLaws.{Bytes, join, left, right, all-stands, filled, taken, bytes, byte, byte-in, first-byte, number, bind-told, test-told}
 use Rattle.message.specs.Name.{within, isLabel, pastLabels, labelsEnd, terminator, nameEnd}
 use Rattle.message.specs.Record.{questionEnd, fields, whole, recordAt}
 use Rattle.octets.proofs.RefusalLaws.{is-some}
@@ -49,10 +49,10 @@ module _ (s : List ℕ) where
         | no m ↦ let z : getD s at 0 ≡ 0 = List·getD-eq-default s 0 (omega arith) in absurd (omega (arith, z))
       ]
 
-  root-here : (t : ℕ) → getD s t 0 ≡ 0 → t + 1 ≤ length s → Spans Name s t (t + 1)
+  root-here : (t : ℕ) → getD s t 0 ≡ 0 → t + 1 ≤ length s → Standing Name s t (t + 1)
   root-here t z l = record { part = 0 ∷ []; stands = rw z at (byte s t (omega arith)); holds = zero-byte }
 
-  pointer-here : (t : ℕ) → 192 ≤ getD s t 0 → t + 2 ≤ length s → Spans Name s t (t + 2)
+  pointer-here : (t : ℕ) → 192 ≤ getD s t 0 → t + 2 ≤ length s → Standing Name s t (t + 2)
   pointer-here t high l =
       let two : t + 1 + 1 ≡ t + 2 = omega arith in
       record {
@@ -62,12 +62,12 @@ module _ (s : List ℕ) where
       }
 
   module _ (end : ℕ) where
-    last-here : (t : ℕ) → terminator s t ≡ some end → Spans Name s t end
+    last-here : (t : ℕ) → terminator s t ≡ some end → Standing Name s t end
     unfolding terminator
     last-here t h = go (eqb (getD s t 0) 0) refl (leb 192 (getD s t 0)) refl h
       where
         go : (z : Bool) → eqb (getD s t 0) 0 ≡ z → (p : Bool) → leb 192 (getD s t 0) ≡ p
-            → cond z (within s (t + 1)) (cond p (within s (t + 2)) none) ≡ some end → Spans Name s t end
+            → cond z (within s (t + 1)) (cond p (within s (t + 2)) none) ≡ some end → Standing Name s t end
         go true is-zero p k f =
             let w = test-told (t + 1) (length s) (t + 1) end f in
             rw (w .1) at (root-here t (eqb-true (getD s t 0) 0 is-zero) (w .0))
@@ -77,7 +77,7 @@ module _ (s : List ℕ) where
         go false k false q f = absurd (Option·none-ne-some end f)
 
     -- a label before a name
-    label-here : (at : ℕ) → isLabel s at ≡ true → Spans Name s (at + 1 + getD s at 0) end → Spans Name s at end
+    label-here : (at : ℕ) → isLabel s at ≡ true → Standing Name s (at + 1 + getD s at 0) end → Standing Name s at end
     label-here at is-label rest =
         let n = getD s at 0 in
         let bounds = both-true (leb 1 n) (leb n 63) is-label in
@@ -91,17 +91,17 @@ module _ (s : List ℕ) where
           holds = label n (text .part) (rest .part) low (leb-true n 63 (bounds .1)) (text .holds) (rest .holds);
         }
 
-    by-turns : (turns : ℕ) (at : ℕ) → terminator s (pastLabels turns s at) ≡ some end → Spans Name s at end
+    by-turns : (turns : ℕ) (at : ℕ) → terminator s (pastLabels turns s at) ≡ some end → Standing Name s at end
     unfolding pastLabels
     by-turns zero at h = last-here at h
     by-turns (suc turns) at h = go (isLabel s at) refl h (by-turns turns (at + 1 + getD s at 0))
       where
         go : (b : Bool) → isLabel s at ≡ b → terminator s (cond b (pastLabels turns s (at + 1 + getD s at 0)) at) ≡ some end
-            → (terminator s (pastLabels turns s (at + 1 + getD s at 0)) ≡ some end → Spans Name s (at + 1 + getD s at 0) end) → Spans Name s at end
+            → (terminator s (pastLabels turns s (at + 1 + getD s at 0)) ≡ some end → Standing Name s (at + 1 + getD s at 0) end) → Standing Name s at end
         go true is-label f ih = label-here at is-label (ih f)
         go false k f ih = last-here at f
 
-    name-spans : (at : ℕ) → nameEnd s at ≡ some end → Spans Name s at end
+    name-spans : (at : ℕ) → nameEnd s at ≡ some end → Standing Name s at end
     unfolding nameEnd labelsEnd
     name-spans at h = by-turns (length s) at h
 
@@ -129,7 +129,7 @@ module _ (s : List ℕ) where
 -- ---- questions and records
 
 module _ (s : List ℕ) (at : ℕ) where
-  question-here : {m : ℕ} → Spans Name s at m → Spans (Bytes 2) s m (m + 2) → Spans (Bytes 2) s (m + 2) (m + 4) → Spans Question s at (m + 4)
+  question-here : {m : ℕ} → Standing Name s at m → Standing (Bytes 2) s m (m + 2) → Standing (Bytes 2) s (m + 2) (m + 4) → Standing Question s at (m + 4)
   question-here name qtype qclass =
       record {
         part = name .part ++ qtype .part ++ qclass .part;
@@ -137,7 +137,7 @@ module _ (s : List ℕ) (at : ℕ) where
         holds = question (name .part) (qtype .part) (qclass .part) (name .holds) (qtype .holds) (qclass .holds);
       }
 
-  question-spans : (end : ℕ) → questionEnd s at ≡ some end → Spans Question s at end
+  question-spans : (end : ℕ) → questionEnd s at ≡ some end → Standing Question s at end
   unfolding questionEnd
   question-spans end h =
       let told = bind-told (nameEnd s at) (λ (m : ℕ). within s (m + 4)) end h in
@@ -155,7 +155,7 @@ module _ (s : List ℕ) (at : ℕ) where
       let fits = filled s at end q w (omega (arith, w .ends, long)) in
       rw (name-found s name named at (at + length name) n, long) (simp (le-leb end (length s) fits))
 
-  record-here : (m size : ℕ) → size ≡ be16At s (m + 8) → Spans Name s at m → m + 10 + size ≤ length s → Spans ARecord s at (m + 10 + size)
+  record-here : (m size : ℕ) → size ≡ be16At s (m + 8) → Standing Name s at m → m + 10 + size ≤ length s → Standing ARecord s at (m + 10 + size)
   record-here m size read owner fits =
       let kind = bytes s m 2 (m + 2) refl (omega (arith, fits)) in
       let class = bytes s (m + 2) 2 (m + 4) (omega arith) (omega (arith, fits)) in
@@ -171,7 +171,7 @@ module _ (s : List ℕ) (at : ℕ) where
             (owner .holds) (kind .holds) (class .holds) (ttl .holds) (rdlength .holds) size-is;
       }
 
-  record-spans : (r : Record) → recordAt s at ≡ some r → Spans ARecord s at (r .end)
+  record-spans : (r : Record) → recordAt s at ≡ some r → Standing ARecord s at (r .end)
   unfolding recordAt
   record-spans r h =
       let told = bind-told (nameEnd s at) (λ (m : ℕ). whole s (fields s at m)) r h in
@@ -228,7 +228,7 @@ module _ (s : List ℕ) (at : ℕ) where
 
 -- ---- so many of them
 
-questions-span : (n : ℕ) (s : List ℕ) (at end : ℕ) → questionsEnd n s at ≡ some end → Spans (Several Question n) s at end
+questions-span : (n : ℕ) (s : List ℕ) (at end : ℕ) → questionsEnd n s at ≡ some end → Standing (Several Question n) s at end
 unfolding questionsEnd
 questions-span zero s at end h =
     let e : at ≡ end = cc h in
@@ -319,7 +319,7 @@ module _ (P : List ℕ → Type 0) where
 
 -- ---- the whole
 
-header-spans : (s : List ℕ) → 12 ≤ length s → Spans (Header (qdcount s) (ancount s) (nscount s) (arcount s)) s 0 12
+header-spans : (s : List ℕ) → 12 ≤ length s → Standing (Header (qdcount s) (ancount s) (nscount s) (arcount s)) s 0 12
 header-spans s l =
     let id = bytes s 0 2 2 refl (omega (arith, l)) in
     let flags = bytes s 2 2 4 refl (omega (arith, l)) in
@@ -383,7 +383,7 @@ module _ (s : List ℕ) where
   abbrev Head : List ℕ → Type 0
   Head = Header (qdcount s) (ancount s) (nscount s) (arcount s)
 
-  gathered : (m : ℕ) → Spans Head s 0 12 → Spans (Several Question (qdcount s)) s 12 m
+  gathered : (m : ℕ) → Standing Head s 0 12 → Standing (Several Question (qdcount s)) s 12 m
       → (last : Apart ARecord (ancount s + nscount s) (arcount s) (drop m s)) → Apart ARecord (ancount s) (nscount s) (last .front) → WellFormed s
   gathered m head questions last firsts =
       let front = head .part ++ questions .part in
@@ -460,17 +460,11 @@ listed-are-these s w = let all = all-found s w in record { say = rw (all .found)
 
 -- ---- at every place
 
-standing : {P : List ℕ → Type 0} {s : List ℕ} {at end : ℕ} → Spans P s at end → Standing P s at end
-standing x = record { part = x .part; here = x .stands .here; ends = x .stands .ends; holds = x .holds }
-
-stands : {P : List ℕ → Type 0} {s : List ℕ} {at end : ℕ} → (x : Standing P s at end) → Stands s at end (x .part)
-stands x = record { here = x .here; ends = x .ends }
-
 pub at-every-place : AtEveryPlace
 at-every-place s at end =
     record {
-      name = (λ e. standing (name-spans s end at e), λ x. name-found s (x .part) (x .holds) at end (stands x));
-      asked-there = (λ e. standing (question-spans s at end e), λ x. question-found s at (x .part) (x .holds) end (stands x));
-      found-stands = λ r e. standing (record-spans s at r e);
-      standing-found = λ x. let f = record-found s at (x .part) (x .holds) end (stands x) in (f .the, f .found, f .ends, f .says);
+      name = (name-spans s end at, λ x. name-found s (x .part) (x .holds) at end (x .stands));
+      asked-there = (question-spans s at end, λ x. question-found s at (x .part) (x .holds) end (x .stands));
+      found-stands = record-spans s at;
+      standing-found = λ x. let f = record-found s at (x .part) (x .holds) end (x .stands) in (f .the, f .found, f .ends, f .says);
     }

@@ -5,6 +5,7 @@ use mathlib.Core.List.{List, [], _∷_, _++_, map}
 use mathlib.Core.Option.{none, some}
 use Prim.Native.Nat.{ℕ, zero, suc}
 use lib.ListN.{replicate}
+use Rattle.octets.specs.Numbers.{upTo}
 use Rattle.message.specs.Answers.{endOf, foundOf, outlineOf}
 use Rattle.message.specs.Message.{qdcount, ancount, nscount, arcount, Outlined, refused, noOpt, theOpt, outline}
 use Rattle.message.specs.Name.{nameEnd}
@@ -28,11 +29,6 @@ pub record NamesHold : Type 0 where
 -- n zeros
 abbrev pub zeros : ℕ → List ℕ
 zeros n = replicate n 0
-
--- so many numbers from one on
-abbrev pub upTo : ℕ → ℕ → List ℕ
-upTo at zero = []
-upTo at (suc n) = at ∷ upTo (suc at) n
 
 -- ---- names
 
@@ -83,31 +79,39 @@ pub record RecordCases : Type 0 where
 
 -- ---- whole messages
 
--- a header with these counts
-abbrev pub header : ℕ → ℕ → ℕ → ℕ → List ℕ
-header qd an ns ar = 0x12 ∷ 0x34 ∷ 0x01 ∷ 0x00 ∷ 0 ∷ qd ∷ 0 ∷ an ∷ 0 ∷ ns ∷ 0 ∷ ar ∷ []
+-- a header with this byte 2, whose top bit is QR, and these counts
+abbrev pub flagged : ℕ → ℕ → ℕ → ℕ → ℕ → List ℕ
+flagged flags qd an ns ar = 0x12 ∷ 0x34 ∷ flags ∷ 0x80 ∷ 0 ∷ qd ∷ 0 ∷ an ∷ 0 ∷ ns ∷ 0 ∷ ar ∷ []
 
--- the same of a response: QR is 1
+-- a query's
+abbrev pub header : ℕ → ℕ → ℕ → ℕ → List ℕ
+header = flagged 0x01
+
+-- a response's
 abbrev pub response : ℕ → ℕ → ℕ → ℕ → List ℕ
-response qd an ns ar = 0x12 ∷ 0x34 ∷ 0x81 ∷ 0x80 ∷ 0 ∷ qd ∷ 0 ∷ an ∷ 0 ∷ ns ∷ 0 ∷ ar ∷ []
+response = flagged 0x81
 
 -- "a", IN, A: 7 bytes
 abbrev pub question : List ℕ
 question = 1 ∷ 97 ∷ 0 ∷ 0 ∷ 1 ∷ 0 ∷ 1 ∷ []
 
--- records without data, 11 bytes and more: of the root, of TYPE 1; an OPT; one whose owner is "a"; one whose owner is a pointer to a zero byte
+-- records without data: of TYPE 1, owned by the root, 11 bytes
 abbrev pub plain : List ℕ
 plain = 0 ∷ 0 ∷ 1 ∷ 0 ∷ 1 ∷ 0 ∷ 0 ∷ 0 ∷ 0 ∷ 0 ∷ 0 ∷ []
 
+-- an OPT, 11 bytes
 abbrev pub opt : List ℕ
 opt = 0 ∷ 0 ∷ 41 ∷ 4 ∷ 208 ∷ 0 ∷ 0 ∷ 128 ∷ 0 ∷ 0 ∷ 0 ∷ []
 
+-- one whose owner is "a"
 abbrev pub foreign : List ℕ
 foreign = 1 ∷ 97 ∷ opt
 
+-- one whose owner is a pointer to a zero byte
 abbrev pub pointed : List ℕ
 pointed = 192 ∷ 4 ∷ 0 ∷ 41 ∷ 4 ∷ 208 ∷ 0 ∷ 0 ∷ 128 ∷ 0 ∷ 0 ∷ 0 ∷ []
 
+-- an OPT that lacks its last byte
 abbrev pub cut : List ℕ
 cut = 0 ∷ 0 ∷ 41 ∷ 4 ∷ 208 ∷ 0 ∷ 0 ∷ 128 ∷ 0 ∷ 0 ∷ []
 

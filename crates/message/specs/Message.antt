@@ -12,16 +12,19 @@ use Rattle.message.specs.declared.Record.{Record}
 
 -- ---- the header: 12 bytes, of which the last eight are four counts
 
--- how many questions, and how many records of the answer, the authority and the additional section
+-- how many questions
 abbrev pub qdcount : List ℕ → ℕ
 qdcount s = be16At s 4
 
+-- how many records of the answer section
 abbrev pub ancount : List ℕ → ℕ
 ancount s = be16At s 6
 
+-- of the authority section
 abbrev pub nscount : List ℕ → ℕ
 nscount s = be16At s 8
 
+-- of the additional section
 abbrev pub arcount : List ℕ → ℕ
 arcount s = be16At s 10
 

@@ -29,7 +29,7 @@ fn questions_end(message: &[u8], count: u16, from: usize) -> End
     End::At(at)
 }
 
-// The OPT so far, with one record more.
+// The OPT so far, with one record more, which is placed if it stands in the additional section.
 fn with_record(known: Outline, placed: bool, next: Record) -> Outline
     ensures { λ r. ⌜ r ≡ withRecord known placed next ⌝ }
 {

@@ -12,20 +12,10 @@ use lib.Dec.{leb}
 use lib.ListN.{length, take, drop, getD, length-append, length-drop, take-append-drop, List·getD-append}
 use lib.Seq.{drop-cons, drop-drop, drop-length, drop-at, take-at, getD-drop, length-take-le}
 use Rattle.octets.proofs.ReadLaws.{be16-at}
+use Rattle.octets.specs.Runs.{Stands, Standing}
 use Rattle.octets.specs.Numbers.{beNumber, be16At}
 
 -- ---- parts
-
--- these bytes stand from `at` to `end`
-pub record Stands (s : List ℕ) (at end : ℕ) (part : List ℕ) : Type 0 where
-  pub here : drop at s ≡ part ++ drop end s
-  pub ends : end ≡ at + length part
-
--- bytes of which P holds do
-pub record Spans (P : List ℕ → Type 0) (s : List ℕ) (at end : ℕ) : Type 0 where
-  pub part : List ℕ
-  pub stands : Stands s at end part
-  pub holds : P part
 
 -- one behind the other
 pub join : {s : List ℕ} {at m end : ℕ} {p q : List ℕ} → Stands s at m p → Stands s m end q → Stands s at end (p ++ q)
@@ -72,7 +62,7 @@ module _ (s : List ℕ) (at end : ℕ) (p : List ℕ) (w : Stands s at end p) wh
 abbrev pub Bytes : ℕ → List ℕ → Type 0
 Bytes n p = length p ≡ n
 
-pub bytes : (s : List ℕ) (at n end : ℕ) → end ≡ at + n → end ≤ length s → Spans (Bytes n) s at end
+pub bytes : (s : List ℕ) (at n end : ℕ) → end ≡ at + n → end ≤ length s → Standing (Bytes n) s at end
 bytes s at n end e fits =
     let long : length (take n (drop at s)) ≡ n = length-take-le n (drop at s) (omega (arith, length-drop at s, e)) in
     record {

@@ -30,6 +30,11 @@ beBytes (suc n) x = x / 256 ^ n % 256 ∷ beBytes n x
 unfoldable pub printed : ℕ → ℕ → List ℕ
 printed n x = cond (ltb x (256 ^ n)) (beBytes n x) []
 
+-- so many numbers from one on, for tables of cases
+abbrev pub upTo : ℕ → ℕ → List ℕ
+upTo at zero = []
+upTo at (suc n) = at ∷ upTo (suc at) n
+
 -- the big-endian number of the two bytes at a place of a run. A byte past the end counts as 0
 abbrev pub be16At : List ℕ → ℕ → ℕ
 be16At s at = beNumber (getD s at 0 ∷ getD s (at + 1) 0 ∷ [])

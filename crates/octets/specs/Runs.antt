@@ -22,9 +22,13 @@ fits buffer at run = leb (at + length run) (length buffer)
 unfoldable pub written : List ℕ → ℕ → List ℕ → List ℕ
 written buffer at run = cond (fits buffer at run) (take at buffer ++ run ++ drop (at + length run) buffer) buffer
 
--- a part of this kind stands in the bytes from `at` up to `end`
-pub record Standing (P : List ℕ → Type 0) (s : List ℕ) (at end : ℕ) : Type 0 where
-  pub part : List ℕ
+-- these bytes stand from `at` up to `end`
+pub record Stands (s : List ℕ) (at end : ℕ) (part : List ℕ) : Type 0 where
   pub here : drop at s ≡ part ++ drop end s
   pub ends : end ≡ at + length part
+
+-- bytes of which P holds do
+pub record Standing (P : List ℕ → Type 0) (s : List ℕ) (at end : ℕ) : Type 0 where
+  pub part : List ℕ
+  pub stands : Stands s at end part
   pub holds : P part

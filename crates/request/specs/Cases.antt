@@ -3,10 +3,11 @@
 use mathlib.Core.Path.{_≡_}
 use mathlib.Core.Bool.{true, false}
 use mathlib.Core.List.{List, [], _∷_, _++_, map}
-use Prim.Native.Nat.{ℕ, zero, suc, _+_, _≤_}
+use Prim.Native.Nat.{ℕ, _+_, _≤_}
 use lib.ListN.{length, replicate}
-use Rattle.octets.specs.Numbers.{beBytes, printed}
+use Rattle.octets.specs.Numbers.{beBytes, printed, upTo}
 use Rattle.octets.specs.Refusals.{Row}
+use Rattle.message.specs.Cases.{flagged, question, plain}
 use Rattle.message.specs.Message.{qdcount}
 use Rattle.edns.specs.declared.Cookie.{Cookie}
 use Rattle.request.specs.Answers.{refusalNumber, answerOf}
@@ -51,26 +52,15 @@ pub record TableHolds : Type 0 where
 
 -- ---- messages
 
--- a header with these flags and counts
-abbrev pub header : ℕ → ℕ → ℕ → ℕ → ℕ → List ℕ
-header flags qd an ns ar = 0x12 ∷ 0x34 ∷ flags ∷ 0x80 ∷ 0 ∷ qd ∷ 0 ∷ an ∷ 0 ∷ ns ∷ 0 ∷ ar ∷ []
-
--- "a", IN, A: 7 bytes
-abbrev pub question : List ℕ
-question = 1 ∷ 97 ∷ 0 ∷ 0 ∷ 1 ∷ 0 ∷ 1 ∷ []
-
 -- an OPT of a version, with this data
 abbrev pub opt : ℕ → List ℕ → List ℕ
 opt version rdata = (0 ∷ 0 ∷ 41 ∷ 4 ∷ 208 ∷ 1 ∷ version ∷ 128 ∷ 1 ∷ beBytes 2 (length rdata)) ++ rdata
 
--- a record of TYPE 1 without data, 11 bytes
-abbrev pub plain : List ℕ
-plain = 0 ∷ 0 ∷ 1 ∷ 0 ∷ 1 ∷ 0 ∷ 0 ∷ 0 ∷ 0 ∷ 0 ∷ 0 ∷ []
-
--- a COOKIE option with a body of n bytes, and another option with this body
+-- a COOKIE option with a body of n bytes
 abbrev pub cookies : ℕ → List ℕ
 cookies n = (0 ∷ 10 ∷ beBytes 2 n) ++ replicate n 7
 
+-- another option with this body
 abbrev pub other : List ℕ → List ℕ
 other body = (0 ∷ 12 ∷ beBytes 2 (length body)) ++ body
 
@@ -80,60 +70,55 @@ past = 0 ∷ 12 ∷ 0 ∷ 1 ∷ []
 
 -- one question and one OPT of version 0 with this data, which starts at byte 30
 abbrev pub asking : List ℕ → List ℕ
-asking rdata = header 1 1 0 0 1 ++ question ++ opt 0 rdata
+asking rdata = flagged 1 1 0 0 1 ++ question ++ opt 0 rdata
 
 -- a query as dnspython sends it, 73 bytes, with the cookie of RFC 9018's first vector
 abbrev pub sent : List ℕ
 sent = printed 73 0x12340100000100000000000103777777076578616d706c650474657374000001000100002904d000000000001c000a00182464c4abcf10c957010000005cf79f111f8130c3eee29480
-
--- so many numbers from one on
-abbrev pub upTo : ℕ → ℕ → List ℕ
-upTo at zero = []
-upTo at (suc n) = at ∷ upTo (suc at) n
 
 pub record RequestCases : Type 0 where
   -- a real one, and what is handed back of it
   pub real : request sent ≡ cookie 1 49 73
   pub real-body : cookieBody sent ≡ printed 24 0x2464c4abcf10c957010000005cf79f111f8130c3eee29480
   -- no refusal: QDCOUNT 0 and 1, with and without an OPT and a COOKIE option
-  pub empty : request (header 1 0 0 0 0) ≡ noCookie 0
-  pub asked : request (header 1 1 0 0 0 ++ question) ≡ noCookie 1
+  pub empty : request (flagged 1 0 0 0 0) ≡ noCookie 0
+  pub asked : request (flagged 1 1 0 0 0 ++ question) ≡ noCookie 1
   pub no-options : request (asking []) ≡ noCookie 1
   pub other-options : request (asking (other (7 ∷ []) ++ other [])) ≡ noCookie 1
   pub client-only : request (asking (cookies 8)) ≡ cookie 1 34 42
-  pub not-asked : request (header 1 0 0 0 1 ++ opt 0 (cookies 8)) ≡ cookie 0 27 35
+  pub not-asked : request (flagged 1 0 0 0 1 ++ opt 0 (cookies 8)) ≡ cookie 0 27 35
   pub behind-another : request (asking (other (7 ∷ []) ++ cookies 8)) ≡ cookie 1 39 47
   pub the-first : request (asking (cookies 8 ++ cookies 16)) ≡ cookie 1 34 42
   pub the-first-longer : request (asking (cookies 16 ++ cookies 8)) ≡ cookie 1 34 50
-  pub behind-records : request (header 1 1 1 1 2 ++ question ++ plain ++ plain ++ plain ++ opt 0 (cookies 8)) ≡ cookie 1 67 75
-  pub before-record : request (header 1 1 0 0 2 ++ question ++ opt 0 (cookies 8) ++ plain) ≡ cookie 1 34 42
+  pub behind-records : request (flagged 1 1 1 1 2 ++ question ++ plain ++ plain ++ plain ++ opt 0 (cookies 8)) ≡ cookie 1 67 75
+  pub before-record : request (flagged 1 1 0 0 2 ++ question ++ opt 0 (cookies 8) ++ plain) ≡ cookie 1 34 42
   -- the bytes of an option elsewhere are no option: in a record that is no OPT, in another option
-  pub in-a-record : request (header 1 1 0 0 1 ++ question ++ (0 ∷ 0 ∷ 16 ∷ 0 ∷ 1 ∷ 0 ∷ 0 ∷ 0 ∷ 0 ∷ 0 ∷ 12 ∷ []) ++ cookies 8) ≡ noCookie 1
+  pub in-a-record : request (flagged 1 1 0 0 1 ++ question ++ (0 ∷ 0 ∷ 16 ∷ 0 ∷ 1 ∷ 0 ∷ 0 ∷ 0 ∷ 0 ∷ 0 ∷ 12 ∷ []) ++ cookies 8) ≡ noCookie 1
   pub in-an-option : request (asking (other (cookies 8))) ≡ noCookie 1
   -- 3, alone and before 4
   pub three : request (0x12 ∷ 0x34 ∷ 1 ∷ replicate 8 0) ≡ refused 3
   pub three-four : request (0x12 ∷ 0x34 ∷ 128 ∷ replicate 8 0) ≡ refused 3
   pub nothing : request [] ≡ refused 3
   -- 4, alone and before 5
-  pub four : request (header 128 1 0 0 0 ++ question) ≡ refused 4
-  pub four-five : request (header 255 2 0 0 0 ++ question ++ question) ≡ refused 4
+  pub four : request (flagged 128 1 0 0 0 ++ question) ≡ refused 4
+  pub four-five : request (flagged 255 2 0 0 0 ++ question ++ question) ≡ refused 4
   -- 5, alone and before 6; QDCOUNT is two bytes
-  pub five : request (header 1 2 0 0 0 ++ question ++ question) ≡ refused 5
-  pub five-six : request (header 1 2 0 0 0) ≡ refused 5
+  pub five : request (flagged 1 2 0 0 0 ++ question ++ question) ≡ refused 5
+  pub five-six : request (flagged 1 2 0 0 0) ≡ refused 5
   pub five-high : request (0x12 ∷ 0x34 ∷ 1 ∷ 0 ∷ 1 ∷ 0 ∷ replicate 6 0) ≡ refused 5
   -- 6, alone and before 7
   pub six : request (asking (cookies 8) ++ 0 ∷ []) ≡ refused 6
-  pub six-cut : request (header 1 1 0 0 1 ++ question) ≡ refused 6
-  pub six-seven : request (header 1 1 1 0 0 ++ question ++ opt 0 [] ++ 0 ∷ []) ≡ refused 6
+  pub six-cut : request (flagged 1 1 0 0 1 ++ question) ≡ refused 6
+  pub six-seven : request (flagged 1 1 1 0 0 ++ question ++ opt 0 [] ++ 0 ∷ []) ≡ refused 6
   -- 7, alone and before 8
-  pub seven : request (header 1 1 1 0 0 ++ question ++ opt 0 []) ≡ refused 7
-  pub seven-second : request (header 1 1 0 0 2 ++ question ++ opt 0 [] ++ opt 0 []) ≡ refused 7
-  pub seven-owner : request (header 1 1 0 0 1 ++ question ++ 1 ∷ 97 ∷ opt 0 []) ≡ refused 7
-  pub seven-eight : request (header 1 1 0 0 2 ++ question ++ opt 1 [] ++ opt 1 []) ≡ refused 7
+  pub seven : request (flagged 1 1 1 0 0 ++ question ++ opt 0 []) ≡ refused 7
+  pub seven-second : request (flagged 1 1 0 0 2 ++ question ++ opt 0 [] ++ opt 0 []) ≡ refused 7
+  pub seven-owner : request (flagged 1 1 0 0 1 ++ question ++ 1 ∷ 97 ∷ opt 0 []) ≡ refused 7
+  pub seven-eight : request (flagged 1 1 0 0 2 ++ question ++ opt 1 [] ++ opt 1 []) ≡ refused 7
   -- 8, alone and before 9
-  pub eight : request (header 1 1 0 0 1 ++ question ++ opt 1 (cookies 8)) ≡ refused 8
-  pub versions : map (λ (v : ℕ). request (header 1 1 0 0 1 ++ question ++ opt v [])) (upTo 0 256) ≡ noCookie 1 ∷ replicate 255 (refused 8)
-  pub eight-nine : request (header 1 1 0 0 1 ++ question ++ opt 1 past) ≡ refused 8
+  pub eight : request (flagged 1 1 0 0 1 ++ question ++ opt 1 (cookies 8)) ≡ refused 8
+  pub versions : map (λ (v : ℕ). request (flagged 1 1 0 0 1 ++ question ++ opt v [])) (upTo 0 256) ≡ noCookie 1 ∷ replicate 255 (refused 8)
+  pub eight-nine : request (flagged 1 1 0 0 1 ++ question ++ opt 1 past) ≡ refused 8
   -- 9, alone and before 10
   pub nine : request (asking past) ≡ refused 9
   pub nine-later : request (asking (cookies 8 ++ past)) ≡ refused 9
@@ -151,7 +136,7 @@ pub record RequestCases : Type 0 where
   -- the finder hands back nothing on a refusal
   pub no-body : cookieBody (asking (cookies 9)) ≡ []
   pub no-body-9 : cookieBody (asking (cookies 8 ++ past)) ≡ []
-  pub no-body-8 : cookieBody (header 1 1 0 0 1 ++ question ++ opt 1 (cookies 8)) ≡ []
-  pub no-body-4 : cookieBody (header 128 1 0 0 1 ++ question ++ opt 0 (cookies 8)) ≡ []
+  pub no-body-8 : cookieBody (flagged 1 1 0 0 1 ++ question ++ opt 1 (cookies 8)) ≡ []
+  pub no-body-4 : cookieBody (flagged 128 1 0 0 1 ++ question ++ opt 0 (cookies 8)) ≡ []
   pub no-cookie : cookieBody (asking (other (7 ∷ []))) ≡ []
   pub body : cookieBody (asking (other (9 ∷ []) ++ cookies 8)) ≡ replicate 8 7
