@@ -26,8 +26,9 @@ use Rattle.cookie.proofs.BodyLaws.{judge-matching}
 use Rattle.cookie.specs.Match.{matchOf}
 use Rattle.verdict.proofs.TimeLaws.{not-true, not-false}
 use Rattle.verdict.specs.Findings.{finding, byTime}
+use Rattle.verdict.specs.ReplyTable.{isDisabled}
 use Rattle.verdict.specs.Serial.{age}
-use Rattle.cookie.specs.ServerCookie.{CookieMethod, sipHashMethod, matches, matching, byHash, judgeBody, verdict, judgement, checkingRefusal, isDisabled, isAddress, isBody}
+use Rattle.cookie.specs.ServerCookie.{CookieMethod, sipHashMethod, matches, matching, byHash, judgeBody, verdict, judgement, checkingRefusal, isAddress, isBody}
 use Rattle.cookie.specs.ServerCookie.Answer.{refused, found}
 use Rattle.verdict.specs.Findings.Finding.{ignored, bad}
 use Rattle.cookie.specs.declared.server_cookie.Match.{Match}

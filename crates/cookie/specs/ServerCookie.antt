@@ -17,6 +17,7 @@ use Rattle.secret.specs.Secrets.{generatingOf, otherOf}
 use Rattle.siphash.specs.SipHash.{sipHash24Bytes}
 use Rattle.verdict.specs.Findings.{Finding, finding, byTime}
 use Rattle.verdict.specs.Findings.Finding.{ignored, clientOnly, bad}
+use Rattle.verdict.specs.ReplyTable.{isDisabled}
 use Rattle.verdict.specs.Serial.{age}
 use Rattle.verdict.specs.declared.Mode.{Mode}
 use Rattle.verdict.specs.declared.Mode.the-variants.{Disabled, Enabled, Enforced}
@@ -128,12 +129,6 @@ module _ (m : CookieMethod) where
 
 -- ---- the refusals that an address and a COOKIE body can get, in the order of the checks
 
--- mode Disabled skips check 10
-abbrev pub isDisabled : Mode → Bool
-isDisabled Disabled = true
-isDisabled Enabled = false
-isDisabled Enforced = false
-
 -- an address is 4 or 16 bytes
 unfoldable pub isAddress : List ℕ → Bool
 isAddress address = eqb (length address) 4 || eqb (length address) 16
@@ -142,7 +137,7 @@ isAddress address = eqb (length address) 4 || eqb (length address) 16
 abbrev pub isBody : List ℕ → Bool
 isBody body = isCookieLength (length body)
 
--- the number of the first that applies, 0 for none
+-- the number of the first that applies, 0 for none. Mode Disabled skips check 10
 unfoldable pub checkingRefusal : Mode → List ℕ → List ℕ → ℕ
 checkingRefusal mode address body =
     first (2 when not (isAddress address)

@@ -44,7 +44,7 @@ pub enum Written {
 // bytes that are stored and loaded again as words cost more than the hash's rounds.
 
 // Whether an address is 4 or 16 bytes.
-fn is_address(address: &[u8]) -> bool
+pub fn is_address(address: &[u8]) -> bool
     ensures { λ r. ⌜ r ≡ isAddress (now (address .entry)) ⌝ }
 {
     match address.len() {

@@ -15,7 +15,7 @@ ghost use lib.ListN.{length};
 ghost use Rattle.octets.specs.Numbers.{leBytes, be32At};
 ghost use Rattle.cookie.specs.Match.{matchOf};
 ghost use Rattle.verdict.specs.Findings.{finding};
-ghost use Rattle.cookie.specs.ServerCookie.{answerOf, sipHashMethod, matches, matching, judgeBody, judgement, isDisabled, isAddress};
+ghost use Rattle.cookie.specs.ServerCookie.{answerOf, sipHashMethod, matches, matching, judgeBody, judgement, isAddress};
 
 // The secret that matches, if one does.
 enum Match {
@@ -93,16 +93,6 @@ fn judge_body(secrets: Secrets, clock: u32, address: &[u8], body: &[u8]) -> Verd
     judge_server(secrets, clock, address, body)
 }
 
-fn is_disabled(mode: Mode) -> bool
-    ensures { λ r. ⌜ r ≡ isDisabled mode ⌝ }
-{
-    match mode {
-        Mode::Disabled => true,
-        Mode::Enabled => false,
-        Mode::Enforced => false,
-    }
-}
-
 // Judges a COOKIE body of any bytes: the verdict, or the refusal of what can't be judged.
 pub fn judge(mode: Mode, secrets: Secrets, clock: u32, address: &[u8], body: &[u8]) -> Judged
     ensures { λ r. ⌜ answerOf r ≡ judgement sipHashMethod mode secrets clock (now (address .entry)) (now (body .entry)) ⌝ }
@@ -110,7 +100,7 @@ pub fn judge(mode: Mode, secrets: Secrets, clock: u32, address: &[u8], body: &[u
     if !crate::is_address(address) {
         return Judged::Refused(Refusal::Address);
     }
-    if is_disabled(mode) {
+    if verdict::is_disabled(mode) {
         return Judged::Found(Verdict::Ignored);
     }
     if !edns::is_cookie_length(body.len()) {

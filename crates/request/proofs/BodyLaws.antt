@@ -1,22 +1,26 @@
 -- The COOKIE body that is found lies within the message. Assumes nothing.
-use Prim.Native.Nat.{ℕ, zero, suc, _-_, _≤_}
-use mathlib.Core.Path.{_≡_, sym, ap, subst, _∙_}
+use Prim.Native.Nat.{ℕ, zero, suc, _+_, _-_, _≤_}
+use mathlib.Core.Path.{_≡_, refl, sym, ap, subst, _∙_}
+use mathlib.Core.Bool.{true, false}
 use mathlib.Core.List.{List, [], _∷_}
 use mathlib.Core.Option.{Option, none, some}
 use native.Mathlib.Omega.{arith}
+use borrow.Author.Tests.{not-false}
 use lib.ListN.{length, take, drop, length-drop}
 use lib.Seq.{length-take-le}
 use Rattle.octets.specs.Refusals.{first, answered}
+use Rattle.octets.proofs.RefusalLaws.{this-not, none-behind, zero-none}
 use Rattle.octets.proofs.EachLaws.{Each, IfOne}
 use Rattle.edns.proofs.Within.{BodyInside, cookie-within}
-use Rattle.edns.specs.Options.{optionsFrom, optionsIn, optionsOf, firstCookie}
+use Rattle.edns.specs.Options.{optionsFrom, optionsIn, optionsOf, firstCookie, isCookieLength}
 use Rattle.edns.specs.declared.Cookie.{Cookie}
 use Rattle.edns.specs.declared.EdnsOption.{EdnsOption}
 use Rattle.message.proofs.Within.{DataInside, opts-within}
 use Rattle.message.specs.declared.Record.{Record}
 use Rattle.message.specs.Message.{qdcount}
+use Rattle.request.proofs.RestLaws.{numbered}
 use Rattle.request.specs.Answers.{answerOf}
-use Rattle.request.specs.Request.{optsIn, dataOf, optData, Answer, refused, noCookie, cookie, startOf, found, foundIn, checks, request, bodyAt, cookieBody}
+use Rattle.request.specs.Request.{optsIn, cookieOf, dataOf, optData, isIllegal, Answer, refused, noCookie, cookie, startOf, found, foundIn, checks, request, bodyAt, cookieBody}
 use Rattle.request.specs.declared.Reading.{Reading}
 use Rattle.request.specs.declared.Reading.the-variants as reading-as
 use Rattle.request.specs.declared.Refusal.{Refusal}
@@ -48,6 +52,30 @@ request-inside s = pick (first (checks s)) (foundIn s) (opts-found s (qdcount s)
     pick zero a i = i
     pick (suc k) a i = tt
 
+-- ---- and it has a legal length
+
+abbrev AnswerLegal : Answer → Type 0
+AnswerLegal (refused k) = Unit {0}
+AnswerLegal (noCookie q) = Unit {0}
+AnswerLegal (cookie q start end) = isCookieLength (end - start) ≡ true
+
+found-legal : (q base : ℕ) (c : Option EdnsOption) → isIllegal c ≡ false → AnswerLegal (found q base c)
+found-legal q base none legal = tt
+found-legal q base (some o) legal =
+    let long : base + o .end - (base + o .start) ≡ o .end - o .start = omega arith in
+    rw long (not-false (isCookieLength (o .end - o .start)) legal)
+
+request-legal : (s : List ℕ) → AnswerLegal (request s)
+unfolding request
+request-legal s = pick (first (checks s)) refl
+  where
+    pick : (k : ℕ) → first (checks s) ≡ k → AnswerLegal (answered refused k (foundIn s))
+    pick zero e =
+        let from-6 = none-behind _ _ (none-behind _ _ (none-behind _ _ (zero-none (checks s) (numbered s) e))) in
+        let from-10 = none-behind _ _ (none-behind _ _ (none-behind _ _ (none-behind _ _ from-6))) in
+        found-legal (qdcount s) (startOf (optsIn s)) (cookieOf s) (this-not _ _ from-10)
+    pick (suc k) e = tt
+
 -- ---- the finder
 
 module _ (s : List ℕ) (x : Reading) (read : answerOf x ≡ request s) where
@@ -73,3 +101,7 @@ module _ (s : List ℕ) (x : Reading) (read : answerOf x ≡ request s) where
 
     pub body-within : c .end ≤ length s
     body-within = inside .1
+
+    -- check 10 let it through
+    pub body-legal : isCookieLength (c .end - c .start) ≡ true
+    body-legal = subst AnswerLegal (sym read ∙ ap answerOf k) (request-legal s)

@@ -11,13 +11,14 @@ use lib.ListN.{length, take, drop, length-drop}
 use lib.Seq.{length-take-le}
 use Rattle.octets.specs.Refusals.{NoneApplies}
 use Rattle.octets.proofs.EachLaws.{Each, IfOne}
-use Rattle.octets.proofs.RefusalLaws.{Numbered, is-first, none-is, is-none, first-is, this-not, none-behind, is-some}
+use Rattle.octets.proofs.RefusalLaws.{is-first, none-is, is-none, first-is, this-not, none-behind, is-some}
 use Rattle.edns.proofs.Within.{BodyInside, cookie-within}
 use Rattle.edns.specs.Options.{options, optionsFrom, optionsIn, optionsOf, optionPast, isCookie, firstCookie}
 use Rattle.edns.specs.declared.EdnsOption.{EdnsOption}
 use Rattle.message.proofs.Within.{DataInside, opts-within}
 use Rattle.message.specs.Message.{qdcount, ancount, nscount, sections, recordsOf, opts, isAny, isSecond, anyForeign, wrongAmong}
 use Rattle.message.specs.declared.Record.{Record}
+use Rattle.request.proofs.RestLaws.{or-parts, numbered}
 use Rattle.request.specs.Claims.{TheFirstIsGiven, NoCookies, OnlyOpt, TheCookie, WithoutCookie, no-opt, no-option, TheFirstIsFound}
 use Rattle.request.specs.Request.{optsIn, cookieOf, dataOf, optData, versionOf, checks, Answer, refused, noCookie, cookie, startOf, found, foundIn, request, bodyAt, cookieBody}
 
@@ -34,9 +35,6 @@ refusedBy (noCookie q) = 0
 refusedBy (cookie q a e) = 0
 
 -- ---- the first claim
-
-numbered : (s : List ℕ) → Numbered (checks s)
-numbered s = ((2, refl), ((3, refl), ((4, refl), ((5, refl), ((6, refl), ((7, refl), ((8, refl), ((9, refl), tt))))))))
 
 found-passes : (q base : ℕ) (c : Option EdnsOption) (n : ℕ) → found q base c ≡ refused n → ⊥
 unfolding isRefused
@@ -55,10 +53,6 @@ first-is-given s =
     }
 
 -- ---- what it means that a check does not apply
-
-or-parts : (a b : Bool) → (a || b) ≡ false → (a ≡ false) × (b ≡ false)
-or-parts true b e = absurd (true≢false e)
-or-parts false b e = (refl, e)
 
 not-false : (b : Bool) → not b ≡ false → b ≡ true
 not-false true e = refl

@@ -1,14 +1,15 @@
 -- The checks in the order in which the code comes to them. Assumes nothing.
-use Prim.Native.Nat.{ℕ, _+_, _-_, _≤_, _<_}
-use mathlib.Core.Path.{_≡_, refl, sym, _∙_}
-use mathlib.Core.Bool.{Bool, true, false, not, or-true}
+use Prim.Native.Nat.{ℕ, suc, _+_, _-_, _≤_, _<_}
+use mathlib.Core.Path.{_≡_, refl, sym, ap, _∙_}
+use mathlib.Core.Bool.{Bool, true, false, not, _||_, or-true, true≢false}
 use mathlib.Core.List.{List, [], _∷_}
 use mathlib.Core.Option.{Option, none, some, Option·getD}
 use native.Mathlib.Omega.{arith}
-use borrow.Author.Tests.{lt-ltb, le-ltb, le-leb, lt-leb, eq-eqb, ne-eqb}
-use lib.Dec.{eqb}
+use borrow.Author.Tests.{lt-ltb, le-ltb, le-leb, lt-leb, eq-eqb, ne-eqb, ltb-false}
+use lib.Dec.{eqb, ltb}
 use lib.ListN.{length, take, drop, getD, length-drop}
-use Rattle.octets.specs.Refusals.{_when_, first, answered, isNone}
+use Rattle.octets.specs.Refusals.{_when_, first, answered, isNone, NoneApplies}
+use Rattle.octets.proofs.RefusalLaws.{Numbered, this-not, first-front, zero-none, first-behind}
 use Rattle.edns.specs.Options.{options, optionsFrom, optionsIn, optionsOf, optionPast, firstCookie, isCookieLength, place, cookieIn}
 use Rattle.edns.specs.Options as edns
 use Rattle.edns.specs.declared.EdnsOption.{EdnsOption}
@@ -25,8 +26,18 @@ use Rattle.edns.specs.declared.Listing.{Listing}
 use Rattle.edns.specs.declared.Listing.the-variants.{Past, NoCookie, First}
 use Rattle.edns.proofs.Within.{cookie-inside}
 use lib.Seq.{length-take-le}
-use Rattle.request.specs.Request.{optsIn, dataOf, optData, versionOf, isIllegal, manyQuestions, Answer, refused, noCookie, cookie, startOf, found, request}
+use Rattle.request.specs.Answers.{refusalNumber, headNumber}
+use Rattle.request.specs.declared.Head.{Head}
+use Rattle.request.specs.declared.Head.the-variants as head-as
+use Rattle.request.specs.declared.Refusal.{Refusal}
+use Rattle.request.specs.declared.Refusal.the-variants as refusal-as
+use Rattle.request.specs.declared.Refusal.the-variants.{Size, Response, Questions, Version, OptionPast, CookieLength}
+use Rattle.request.specs.Request.{optsIn, dataOf, optData, versionOf, isIllegal, wrongSize, manyQuestions, headChecks, restChecks, checks, Answer, refused, noCookie, cookie, startOf, found, request}
 use Rattle.request.specs.Rest.{afterCookie, afterList, afterOpt, afterOutline, afterHead}
+
+-- each row has its number
+pub numbered : (s : List ℕ) → Numbered (checks s)
+numbered s = ((2, refl), ((3, refl), ((4, refl), ((5, refl), ((6, refl), ((7, refl), ((8, refl), ((9, refl), tt))))))))
 
 -- ---- what is left behind each step is what the checks say
 
@@ -141,20 +152,61 @@ module _ (s : List ℕ) (o : Outline) (walked : outlineOf o ≡ outline s) (r : 
 
 -- ---- checks 3 and 4
 
-module _ (s : List ℕ) where
-  pub refuse-short : length s < 12 → refused 3 ≡ request s
-  unfolding request
-  refuse-short short = simp (lt-ltb _ _ short)
+pub or-parts : (a b : Bool) → (a || b) ≡ false → (a ≡ false) × (b ≡ false)
+or-parts true b e = absurd (true≢false e)
+or-parts false b e = (refl, e)
 
-  pub refuse-long : 65535 < length s → refused 3 ≡ request s
-  unfolding request
-  refuse-long long = simp (lt-ltb _ _ long, or-true)
+pub head-numbered : (s : List ℕ) → Numbered (headChecks s)
+head-numbered s = ((2, refl), ((3, refl), tt))
+
+module _ (s : List ℕ) where
+  pub head-short : length s < 12 → 3 ≡ first (headChecks s)
+  head-short short = simp (lt-ltb _ _ short)
+
+  pub head-long : 65535 < length s → 3 ≡ first (headChecks s)
+  head-long long = simp (lt-ltb _ _ long, or-true)
 
   module _ (low : 12 ≤ length s) (high : length s ≤ 65535) where
-    pub refuse-4 : 128 ≤ getD s 2 0 → refused 4 ≡ request s
-    unfolding request
-    refuse-4 qr = simp (le-ltb _ _ low, le-ltb _ _ high, le-leb _ _ qr)
+    pub head-4 : 128 ≤ getD s 2 0 → 4 ≡ first (headChecks s)
+    head-4 qr = simp (le-ltb _ _ low, le-ltb _ _ high, le-leb _ _ qr)
 
-    pub rest-of : getD s 2 0 < 128 → (x : Answer) → x ≡ afterHead s → x ≡ request s
+    pub head-none : getD s 2 0 < 128 → 0 ≡ first (headChecks s)
+    head-none qr = simp (le-ltb _ _ low, le-ltb _ _ high, lt-leb _ _ qr)
+
+-- ---- and behind them the rest
+
+-- no refusal's number is 0
+pub positive : (f : Refusal) → (k : ℕ) × (refusalNumber f ≡ suc k)
+positive Size = (2, refl)
+positive Response = (3, refl)
+positive Questions = (4, refl)
+positive refusal-as.Malformed = (5, refl)
+positive refusal-as.WrongOpt = (6, refl)
+positive Version = (7, refl)
+positive OptionPast = (8, refl)
+positive CookieLength = (9, refl)
+
+module _ (s : List ℕ) (h : Head) (told : headNumber h ≡ first (headChecks s)) where
+  pub refuse-head : (f : Refusal) → h ≡ head-as.Refused f → refused (refusalNumber f) ≡ request s
+  unfolding request
+  refuse-head f k =
+      let n = positive f in
+      let is : first (headChecks s) ≡ suc (n .0) = sym told ∙ ap headNumber k ∙ n .1 in
+      rw (first-front (headChecks s) (restChecks s) (n .0) is, n .1)
+
+  module _ (k : h ≡ head-as.Passed) where
+    passed : NoneApplies (headChecks s)
+    passed = zero-none (headChecks s) (head-numbered s) (sym told ∙ ap headNumber k)
+
+    size : wrongSize s ≡ false
+    size = this-not _ _ passed
+
+    pub long-enough : 12 ≤ length s
+    long-enough = ltb-false (length s) 12 (or-parts (ltb (length s) 12) (ltb 65535 (length s)) size .0)
+
+    pub short-enough : length s ≤ 65535
+    short-enough = ltb-false 65535 (length s) (or-parts (ltb (length s) 12) (ltb 65535 (length s)) size .1)
+
+    pub rest-of : (x : Answer) → x ≡ afterHead s → x ≡ request s
     unfolding request afterHead
-    rest-of qr x e = e ∙ simp (le-ltb _ _ low, le-ltb _ _ high, lt-leb _ _ qr)
+    rest-of x e = e ∙ rw (first-behind (headChecks s) (restChecks s) passed)

@@ -10,8 +10,9 @@ use Rattle.octets.specs.Refusals.{Row}
 use Rattle.message.specs.Cases.{flagged, question, plain}
 use Rattle.message.specs.Message.{qdcount}
 use Rattle.edns.specs.declared.Cookie.{Cookie}
-use Rattle.request.specs.Answers.{refusalNumber, answerOf}
+use Rattle.request.specs.Answers.{refusalNumber, headNumber, answerOf}
 use Rattle.request.specs.Request.{wrongSize, isResponse, manyQuestions, checks, headChecks, refused, noCookie, cookie, request, bodyAt, cookieBody}
+use Rattle.request.specs.declared.Head.the-variants as head-as
 use Rattle.request.specs.declared.Reading.the-variants as reading-as
 use Rattle.request.specs.declared.Refusal.{Refusal}
 use Rattle.request.specs.declared.Refusal.the-variants.{Size, Response, Questions, Malformed, WrongOpt, Version, OptionPast, CookieLength}
@@ -26,6 +27,8 @@ pub record NamesHold : Type 0 where
   pub version : refusalNumber Version ≡ 8
   pub option-past : refusalNumber OptionPast ≡ 9
   pub cookie-length : refusalNumber CookieLength ≡ 10
+  pub head-refused : (r : Refusal) → headNumber (head-as.Refused r) ≡ refusalNumber r
+  pub head-passed : headNumber head-as.Passed ≡ 0
   pub refused-by : (r : Refusal) → answerOf (reading-as.Refused r) ≡ refused (refusalNumber r)
   pub without : (q : ℕ) → answerOf (reading-as.NoCookie q) ≡ noCookie q
   pub with-one : (q : ℕ) (c : Cookie) → answerOf (reading-as.CookieAt q c) ≡ cookie q (c .start) (c .end)

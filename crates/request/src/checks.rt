@@ -1,4 +1,5 @@
 // The checks of a request, and what is found where none refuses.
+use crate::Head;
 use crate::Reading;
 use crate::Refusal;
 use edns::Cookie;
@@ -8,8 +9,9 @@ use message::Record;
 ghost use mathlib.Core.Path.{_≡_};
 ghost use Prim.Native.Nat.{_+_, _≤_};
 ghost use lib.ListN.{length};
-ghost use Rattle.request.specs.Answers.{answerOf};
-ghost use Rattle.request.specs.Request.{request, cookieBody};
+ghost use Rattle.octets.specs.Refusals.{first};
+ghost use Rattle.request.specs.Answers.{headNumber, answerOf};
+ghost use Rattle.request.specs.Request.{headChecks, request, cookieBody};
 ghost use Rattle.request.specs.Rest.{afterCookie, afterOpt, afterHead};
 
 // Check 10, and where the first COOKIE body lies in the message.
@@ -63,20 +65,30 @@ fn read_rest(message: &[u8]) -> Reading
     }
 }
 
+// Checks 3 and 4: all that mode Disabled asks of a message.
+pub fn check_head(message: &[u8]) -> Head
+    ensures { λ r. ⌜ headNumber r ≡ first (headChecks (now (message .entry))) ⌝ }
+{
+    if message.len() < 12 {
+        return Head::Refused(Refusal::Size);
+    }
+    if 65535 < message.len() {
+        return Head::Refused(Refusal::Size);
+    }
+    if 128 <= message[2] {
+        return Head::Refused(Refusal::Response);
+    }
+    Head::Passed
+}
+
 // Reads a request outside mode Disabled: checks 3 to 10.
 pub fn read(message: &[u8]) -> Reading
     ensures { λ r. ⌜ answerOf r ≡ request (now (message .entry)) ⌝ }
 {
-    if message.len() < 12 {
-        return Reading::Refused(Refusal::Size);
+    match check_head(message) {
+        Head::Refused(refusal) => Reading::Refused(refusal),
+        Head::Passed => read_rest(message),
     }
-    if 65535 < message.len() {
-        return Reading::Refused(Refusal::Size);
-    }
-    if 128 <= message[2] {
-        return Reading::Refused(Refusal::Response);
-    }
-    read_rest(message)
 }
 
 // The body of the first COOKIE option, as a part of the message; an empty part if there is none or a check refuses.

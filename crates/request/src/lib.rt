@@ -2,9 +2,12 @@
 // Takes every message, and copies nothing of it.
 mod checks;
 
+pub use checks::check_head;
 pub use checks::cookie_body;
 pub use checks::read;
 use edns::Cookie;
+ghost use mathlib.Core.Path.{_≡_};
+ghost use Rattle.request.specs.Answers.{refusalNumber};
 
 // Why a request is refused: document 01's refusals 3 to 10.
 pub enum Refusal {
@@ -26,6 +29,12 @@ pub enum Refusal {
     CookieLength,
 }
 
+// What the checks of a message's size and QR give.
+pub enum Head {
+    Refused(Refusal),
+    Passed,
+}
+
 // What reading a request gives. QDCOUNT is told because the reply depends on it.
 pub enum Reading {
     Refused(Refusal),
@@ -33,4 +42,20 @@ pub enum Reading {
     NoCookie { qdcount: u16 },
     // Where the body of the first COOKIE option lies in the message.
     CookieAt { qdcount: u16, cookie: Cookie },
+}
+
+// Document 01's number of a refusal, 3 to 10.
+pub fn refusal_number(refusal: Refusal) -> u8
+    ensures { λ r. ⌜ r ≡ refusalNumber refusal ⌝ }
+{
+    match refusal {
+        Refusal::Size => 3,
+        Refusal::Response => 4,
+        Refusal::Questions => 5,
+        Refusal::Malformed => 6,
+        Refusal::WrongOpt => 7,
+        Refusal::Version => 8,
+        Refusal::OptionPast => 9,
+        Refusal::CookieLength => 10,
+    }
 }

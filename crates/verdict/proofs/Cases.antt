@@ -63,6 +63,9 @@ replies-hold =
 pub names-hold : NamesHold
 names-hold =
     record {
+      ignores = refl;
+      enabled = refl;
+      enforced = refl;
       method = refl;
       hash = refl;
       time = refl;

@@ -2,13 +2,14 @@
 -- reserved bytes set are what OpenSSL's SIPHASH gives. Assumes nothing.
 use Prim.Native.Nat.{ℕ, suc, _+_, _^_, _≤_}
 use mathlib.Core.Path.{_≡_}
+use mathlib.Core.Bool.{true, false}
 use mathlib.Core.List.{List, [], _∷_}
 use lib.IntN.{ℤ, pos, negsuc}
 use lib.ListN.{take, drop}
 use Rattle.octets.specs.Numbers.{printed}
 use Rattle.verdict.specs.Findings.{Finding, finding, byTime}
 use Rattle.verdict.specs.Findings.Finding.{ignored, absent, clientOnly, bad, good}
-use Rattle.verdict.specs.ReplyTable.{_carrying_, owedOf, replyOwed}
+use Rattle.verdict.specs.ReplyTable.{isDisabled, _carrying_, owedOf, replyOwed}
 use Rattle.verdict.specs.ReplyTable.Sent.{serve, truncate, error}
 use Rattle.verdict.specs.Serial.{age}
 use Rattle.verdict.specs.declared.Action.the-variants.{Serve, BadCookie, Truncate}
@@ -67,8 +68,11 @@ pub record RepliesHold : Type 0 where
   pub reserved-three : replyOwed Enabled 1 (good (pos 0) Generating) (printed 24 0x2464c4abcf10c957010000015cf79f11737c77e34ce6b548) ≡ serve carrying Fresh
   pub no-reserved : replyOwed Enabled 1 (good (pos 0) Generating) (take 11 cookie) ≡ serve carrying Fresh
 
--- what the code's enums say, each of their cases
+-- what the code's enums say, each of their cases; and which mode ignores cookies
 pub record NamesHold : Type 0 where
+  pub ignores : isDisabled Disabled ≡ true
+  pub enabled : isDisabled Enabled ≡ false
+  pub enforced : isDisabled Enforced ≡ false
   pub method : finding (Bad Method) ≡ bad 1
   pub hash : finding (Bad Hash) ≡ bad 2
   pub time : finding (Bad Time) ≡ bad 3

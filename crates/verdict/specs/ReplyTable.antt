@@ -1,6 +1,6 @@
 -- The reply that a verdict owes: document 01, "What the reply carries", and RFC 7873, section 5.4, for QDCOUNT 0. Assumes nothing.
 use Prim.Native.Nat.{ℕ}
-use mathlib.Core.Bool.{Bool, cond, _&&_}
+use mathlib.Core.Bool.{Bool, true, false, cond, _&&_}
 use mathlib.Core.List.{List, [], _∷_}
 use lib.Dec.{eqb}
 use lib.IntN.{ℤ, pos}
@@ -18,6 +18,12 @@ use Rattle.verdict.specs.declared.Mode.the-variants.{Disabled, Enabled, 
 use Rattle.verdict.specs.declared.Reply.{Reply}
 use Rattle.verdict.specs.declared.Which.{Which}
 use Rattle.verdict.specs.declared.Which.the-variants.{Generating, Other}
+
+-- the mode in which cookies are ignored
+abbrev pub isDisabled : Mode → Bool
+isDisabled Disabled = true
+isDisabled Enabled = false
+isDisabled Enforced = false
 
 -- what the reply is: the question served, an error with its RCODE, or the question with the TC bit alone
 pub data Sent : Type 0 where

@@ -2,6 +2,7 @@
 mod reply_table;
 mod serial;
 
+pub use reply_table::is_disabled;
 pub use reply_table::reply_for;
 pub use serial::by_time;
 pub use serial::serial_age;

@@ -7,7 +7,18 @@ use crate::Verdict;
 use crate::Which;
 ghost use mathlib.Core.Path.{_≡_};
 ghost use Rattle.verdict.specs.Findings.{finding};
-ghost use Rattle.verdict.specs.ReplyTable.{owedOf, replyOwed, keptOrFresh, enabledReply, enforcedReply};
+ghost use Rattle.verdict.specs.ReplyTable.{isDisabled, owedOf, replyOwed, keptOrFresh, enabledReply, enforcedReply};
+
+// Whether cookies are ignored.
+pub fn is_disabled(mode: Mode) -> bool
+    ensures { λ r. ⌜ r ≡ isDisabled mode ⌝ }
+{
+    match mode {
+        Mode::Disabled => true,
+        Mode::Enabled => false,
+        Mode::Enforced => false,
+    }
+}
 
 // Whether a good cookie is sent again or a fresh one.
 fn kept_or_fresh(age: i32, secret: Which, body: &[u8]) -> Carried
