@@ -5,7 +5,7 @@ use mathlib.Core.Bool.{Bool, true, false, not, cond, _||_, true≢false, false�
 use mathlib.Core.List.{List, [], _∷_, _++_}
 use mathlib.Core.Option.{Option, none, some, Option·getD}
 use native.Mathlib.Omega.{arith}
-use borrow.Author.Tests.{eqb-true, eq-eqb}
+use borrow.Author.Tests.{eqb-true, eq-eqb, ne-eqb}
 use lib.Dec.{eqb}
 use lib.ListN.{length, take, drop, length-drop}
 use lib.Seq.{length-take-le}
@@ -79,6 +79,17 @@ split (o ∷ os) = pick (isCookie o) refl (firstCookie os) (split os)
     pick : (b : Bool) → isCookie o ≡ b → (p : Option EdnsOption) → Split os p → Split (o ∷ os) (cond b (some o) p)
     pick true e p is = ([], os, refl, tt, eqb-true (o .code) 10 e)
     pick false e p is = push p (λ c. true≢false (sym (eq-eqb (o .code) 10 c) ∙ e)) is
+
+-- the first COOKIE option behind others
+first-behind : (before : List EdnsOption) (o : EdnsOption) (after : List EdnsOption) → NoCookies before → o .code ≡ 10 → firstCookie (before ++ o ∷ after) ≡ some o
+unfolding firstCookie
+first-behind [] o after others code = rw (eq-eqb (o .code) 10 code)
+first-behind (b ∷ before) o after others code = rw (ne-eqb (b .code) 10 (others .0)) (first-behind before o after (others .1) code)
+
+first-none : (os : List EdnsOption) → NoCookies os → firstCookie os ≡ none
+unfolding firstCookie
+first-none [] others = refl
+first-none (o ∷ os) others = rw (ne-eqb (o .code) 10 (others .0)) (first-none os (others .1))
 
 -- ---- the second claim
 
@@ -167,12 +178,40 @@ module _ (s : List ℕ) where
   unfolding request
   told-of a passes e = let nothing = passed a passes e in subst (Told s) (sym (none-is refused (foundIn s) (checks s) nothing) ∙ e) (told nothing)
 
+  -- ---- and back: what there is, is found
+
+  -- the answer by the records and the options that there are
+  found-opts : NoneApplies (checks s) → (all os : List Record) → sections s ≡ some all → opts all ≡ os → request s ≡ foundFrom os
+  unfolding request
+  found-opts nothing all os sectioned is =
+      none-is refused (foundIn s) (checks s) nothing
+      ∙ ap foundFrom (ap (λ (x : Option (List Record)). opts (Option·getD x [])) sectioned ∙ is)
+
+  found-options : NoneApplies (checks s) → (all : List Record) (opt : Record) → OnlyOpt s all opt → (os : List EdnsOption) → options (dataOf s opt) ≡ some os
+      → request s ≡ found (qdcount s) (opt .start) (firstCookie os)
+  found-options nothing all opt the-opt os listed =
+      found-opts nothing all (opt ∷ []) (the-opt .sectioned) (the-opt .only)
+      ∙ ap (λ (x : Option (List EdnsOption)). found (qdcount s) (opt .start) (firstCookie (Option·getD x []))) listed
+
+  when-found : NoneApplies (checks s) → (start end : ℕ) → TheCookie s start end → request s ≡ cookie (qdcount s) start end
+  when-found nothing start end c =
+      found-options nothing (c .all) (c .opt) (c .the-opt) (c .before ++ c .option ∷ c .after) (c .listed)
+      ∙ rw (first-behind (c .before) (c .option) (c .after) (c .none-before) (c .code), c .starts, c .ends)
+
+  when-not-found : NoneApplies (checks s) → WithoutCookie s → request s ≡ noCookie (qdcount s)
+  unfolding optionsFrom optionsIn firstCookie
+  when-not-found nothing (no-opt all sectioned is) = found-opts nothing all [] sectioned is
+  when-not-found nothing (no-option all opt the-opt os listed none-there) =
+      found-options nothing all opt the-opt os listed ∙ rw (first-none os none-there)
+
 pub first-is-found : TheFirstIsFound
 unfolding isRefused cookieBody
 first-is-found s =
     record {
       found = λ q a e is. told-of s (cookie q a e) refl is;
       not-found = λ q is. told-of s (noCookie q) refl is;
+      when-found = when-found s;
+      when-not-found = when-not-found s;
       part = λ q a e is. ap (bodyAt s) is;
       no-part = λ q is. ap (bodyAt s) is;
       no-part-refused = λ n is. ap (bodyAt s) is;

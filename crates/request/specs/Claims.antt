@@ -64,10 +64,12 @@ pub data WithoutCookie (s : List ℕ) : Type 0 where
   no-opt : (all : List Record) → sections s ≡ some all → opts all ≡ [] → WithoutCookie s
   no-option : (all : List Record) (opt : Record) → OnlyOpt s all opt → (os : List EdnsOption) → options (dataOf s opt) ≡ some os → NoCookies os → WithoutCookie s
 
--- the claim: what is found is that, QDCOUNT is told, and the finder hands back that part of the message and otherwise an empty one
+-- the claim: what is found is that, both ways, QDCOUNT is told, and the finder hands back that part of the message and otherwise an empty one
 pub record FoundIsTheFirst (s : List ℕ) : Type 0 where
   pub found : (q start end : ℕ) → request s ≡ cookie q start end → (q ≡ qdcount s) × TheCookie s start end
   pub not-found : (q : ℕ) → request s ≡ noCookie q → (q ≡ qdcount s) × WithoutCookie s
+  pub when-found : NoneApplies (checks s) → (start end : ℕ) → TheCookie s start end → request s ≡ cookie (qdcount s) start end
+  pub when-not-found : NoneApplies (checks s) → WithoutCookie s → request s ≡ noCookie (qdcount s)
   pub part : (q start end : ℕ) → request s ≡ cookie q start end → cookieBody s ≡ take (end - start) (drop start s)
   pub no-part : (q : ℕ) → request s ≡ noCookie q → cookieBody s ≡ []
   pub no-part-refused : (n : ℕ) → request s ≡ refused n → cookieBody s ≡ []
