@@ -229,8 +229,8 @@ def answer(line, siphash):
     return act(siphash, *fields).encode()
 
 
-def expect(lines, write):
-    siphash = SipHash()
+def expect(lines, write, answered):
+    """Lines and what is printed for each that is not a comment: `answered` gives it."""
     for number, line in enumerate(lines, 1):
         line = line[:-1] if line.endswith(b"\n") else line
         if len(line) > LONGEST:
@@ -239,7 +239,7 @@ def expect(lines, write):
             write(line + b"\n")
             continue
         try:
-            write(line + b" " + answer(line, siphash) + b"\n")
+            write(answered(line) + b"\n")
         except BadLine:
             write(b"bad line %d\n" % number)
 
@@ -277,8 +277,8 @@ def kind(line):
     return " ".join(words[:2]) if words[0] in ("bad", "long") else words[0]
 
 
-def tally(lines, write):
-    seen = collections.Counter(dict.fromkeys(kinds(), 0))
+def tally(lines, write, kinds, kind):
+    seen = collections.Counter(dict.fromkeys(kinds, 0))
     seen.update(kind(line) for line in map(bytes.rstrip, lines) if line and not line.startswith(b"#"))
     for name, count in seen.items():
         write(b"%9d %s\n" % (count, name.encode()))
@@ -412,9 +412,11 @@ def main():
     if asked.random is not None:
         make(asked.random, asked.seed, sys.stdout.buffer.write)
     elif asked.tally:
-        tally(sys.stdin.buffer, sys.stdout.buffer.write)
+        tally(sys.stdin.buffer, sys.stdout.buffer.write, kinds(), kind)
     else:
-        expect(sys.stdin.buffer, sys.stdout.buffer.write)
+        siphash = SipHash()
+        expect(sys.stdin.buffer, sys.stdout.buffer.write, lambda line: line + b" " + answer(line, siphash))
 
 
-main()
+if __name__ == "__main__":
+    main()

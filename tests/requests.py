@@ -701,4 +701,5 @@ def main() -> None:
         expect(sys.stdin.buffer, sys.stdout.buffer.write)
 
 
-main()
+if __name__ == "__main__":
+    main()
