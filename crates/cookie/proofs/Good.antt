@@ -144,7 +144,7 @@ pub address-true : (address : List ℕ) → AnAddress address → isAddress addr
 address-true address (four e) = sym (is-4 address e)
 address-true address (sixteen e) = sym (is-16 address e)
 
-true-address : (address : List ℕ) → isAddress address ≡ true → AnAddress address
+pub true-address : (address : List ℕ) → isAddress address ≡ true → AnAddress address
 unfolding isAddress
 true-address address e = go (eqb (length address) 4) refl e
   where

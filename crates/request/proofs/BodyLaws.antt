@@ -54,7 +54,7 @@ request-inside s = pick (first (checks s)) (foundIn s) (opts-found s (qdcount s)
 
 -- ---- and it has a legal length
 
-abbrev AnswerLegal : Answer → Type 0
+abbrev pub AnswerLegal : Answer → Type 0
 AnswerLegal (refused k) = Unit {0}
 AnswerLegal (noCookie q) = Unit {0}
 AnswerLegal (cookie q start end) = isCookieLength (end - start) ≡ true
@@ -65,7 +65,7 @@ found-legal q base (some o) legal =
     let long : base + o .end - (base + o .start) ≡ o .end - o .start = omega arith in
     rw long (not-false (isCookieLength (o .end - o .start)) legal)
 
-request-legal : (s : List ℕ) → AnswerLegal (request s)
+pub request-legal : (s : List ℕ) → AnswerLegal (request s)
 unfolding request
 request-legal s = pick (first (checks s)) refl
   where

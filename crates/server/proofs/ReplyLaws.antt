@@ -58,25 +58,27 @@ module _ (secrets : Secrets) (clock : ℕ) (address body output : List ℕ) (roo
 
 -- ---- the verdict
 
-module _ (mode : Mode) (secrets : Secrets) (clock : ℕ) (address body : List ℕ) (on : isDisabled mode ≡ false) (from : isAddress address ≡ true) (legal : isBody body ≡ true) where
-  -- where neither check applies a verdict is found
-  judgement-is : judgement sipHashMethod mode secrets clock address body ≡ found (judgeBody sipHashMethod secrets clock address body)
-  unfolding judgement checkingRefusal
-  judgement-is = by mode on
-    where
-      by : (n : Mode) → isDisabled n ≡ false → judgement sipHashMethod n secrets clock address body ≡ found (judgeBody sipHashMethod secrets clock address body)
-      by Disabled e = absurd (true≢false e)
-      by Enabled e = rw (from, legal)
-      by Enforced e = rw (from, legal)
+-- where neither check 2 nor 10 applies a verdict is found, over any method
+pub judgement-is : (m : CookieMethod) (mode : Mode) (secrets : Secrets) (clock : ℕ) (address body : List ℕ) → isDisabled mode ≡ false → isAddress address ≡ true
+    → isBody body ≡ true → judgement m mode secrets clock address body ≡ found (judgeBody m secrets clock address body)
+unfolding judgement checkingRefusal
+judgement-is m Disabled secrets clock address body on from legal = absurd (true≢false on)
+judgement-is m Enabled secrets clock address body on from legal = rw (from, legal)
+judgement-is m Enforced secrets clock address body on from legal = rw (from, legal)
 
-  module _ (j : Judged) (told : cookie.answerOf j ≡ judgement sipHashMethod mode secrets clock address body) where
-    pub judge-found : (v : Verdict) → j ≡ judged-as.Found v → finding v ≡ judgeBody sipHashMethod secrets clock address body
-    judge-found v is = let e : found (finding v) ≡ found (judgeBody sipHashMethod secrets clock address body) = sym (ap cookie.answerOf is) ∙ told ∙ judgement-is in cc
+module _ (mode : Mode) (secrets : Secrets) (clock : ℕ) (address body : List ℕ) (on : isDisabled mode ≡ false) (from : isAddress address ≡ true) (legal : isBody body ≡ true)
+    (j : Judged) (told : cookie.answerOf j ≡ judgement sipHashMethod mode secrets clock address body) where
+  found-is : cookie.answerOf j ≡ found (judgeBody sipHashMethod secrets clock address body)
+  found-is = told ∙ judgement-is sipHashMethod mode secrets clock address body on from legal
 
-    pub judge-refused : (r : Refusal) → j ≡ judged-as.Refused r → (x : Finding) → x ≡ judgeBody sipHashMethod secrets clock address body
-    judge-refused r is x =
-        let e = sym (ap cookie.answerOf is) ∙ told ∙ judgement-is in
-        let z : _≡_ {A = ℕ} 0 1 = cc in absurd (omega (arith, z))
+  pub judge-found : (v : Verdict) → j ≡ judged-as.Found v → finding v ≡ judgeBody sipHashMethod secrets clock address body
+  judge-found v is = let e : found (finding v) ≡ found (judgeBody sipHashMethod secrets clock address body) = sym (ap cookie.answerOf is) ∙ found-is in cc
+
+  pub judge-refused : (r : Refusal) → j ≡ judged-as.Refused r → (x : Finding) → x ≡ judgeBody sipHashMethod secrets clock address body
+  judge-refused r is x =
+      let e = sym (ap cookie.answerOf is) ∙ found-is in
+      let z : _≡_ {A = ℕ} 0 1 = cc in
+      absurd (omega (arith, z))
 
 -- ---- the reply
 

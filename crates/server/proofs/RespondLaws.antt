@@ -53,7 +53,7 @@ module _ (message : List ℕ) (h : Head) (told : headNumber h ≡ first (headChe
 
 module _ (m : CookieMethod) (secrets : Secrets) (clock : ℕ) (address message output : List ℕ) where
   -- behind checks 1 and 2
-  ignoring-is : 28 ≤ length output → isAddress address ≡ true → (mode : Mode) → isDisabled mode ≡ true
+  pub ignoring-is : 28 ≤ length output → isAddress address ≡ true → (mode : Mode) → isDisabled mode ≡ true
       → (ignoring message leaving output) ≡ respond m mode secrets clock address message output
   unfolding respond
   ignoring-is room from Enabled e = absurd (false≢true e)
@@ -69,7 +69,7 @@ module _ (m : CookieMethod) (secrets : Secrets) (clock : ℕ) (address message o
 
 module _ (m : CookieMethod) (mode : Mode) (secrets : Secrets) (clock : ℕ) (address message output : List ℕ) where
   -- what is answered to what the reader found
-  abbrev onReading : request.Answer → Outcome
+  abbrev pub onReading : request.Answer → Outcome
   onReading (request.refused n) = refusing output n
   onReading (request.noCookie q) = onCookie m mode secrets clock address q output none
   onReading (request.cookie q start end) = onCookie m mode secrets clock address q output (some (take (end - start) (drop start message)))
