@@ -371,7 +371,7 @@ module _ (m : CookieMethod) (mode : Mode) (secrets : Secrets) (clock : ℕ) (add
         c .body,
         c .carries,
         subst (λ (l : List ℕ). Holding output l (freshFor m secrets clock address (c .body))) same
-        (subst (Holding output (outputAfter (freshRefusal output address) (freshOption m secret clock address client) output)) parts holds),
+            (subst (Holding output (outputAfter (freshRefusal output address) (freshOption m secret clock address client) output)) parts holds),
       )
 
   kept-written : respond m mode secrets clock address message output .answer ≡ replied v (s carrying Kept)
