@@ -13,7 +13,7 @@ run: build-vectors
 test:
 	@.ci/run
 
-build: build-vectors build-read_requests
+build: build-vectors build-read_requests build-answer_requests
 
 build-%:
 	@mkdir -p target
@@ -33,6 +33,7 @@ endef
 differential: build
 	$(call compare,vectors,expected.py)
 	$(call compare,read_requests,requests.py)
+	$(call compare,answer_requests,answers.py)
 
 # Times against plain C, and those of cookies and requests against libknot where it is installed, in turns.
 bench:

@@ -4,6 +4,9 @@ use libc::STDOUT_FILENO;
 ghost use Prim.Native.Nat.{_≤_};
 ghost use lib.ListN.{length};
 
+// Messages of up to so many bytes are printed again.
+const SHOWN: usize = 512;
+
 // Writes to standard output, and says on standard error if it can't.
 pub fn say(words: &[u8]) -> bool {
     let is_written = io::write_all(STDOUT_FILENO, words);
@@ -41,6 +44,22 @@ pub fn say_number(words: &[u8], number: u64) -> bool {
         return false;
     }
     say(b"\n")
+}
+
+// The text of a message again, or how many bytes the message has.
+pub fn say_message(text: &[u8], count: usize) -> bool {
+    if count <= SHOWN {
+        return say(text);
+    }
+    if !say_field(b"(", count as u64) {
+        return false;
+    }
+    say(b" bytes)")
+}
+
+// A refusal's number.
+pub fn say_refused(number: u8) -> bool {
+    say_field(b" refused ", number as u64)
 }
 
 pub fn bad_line(number: u64) -> bool {

@@ -51,14 +51,22 @@ fn next_field(line: &[u8], from: usize) -> usize
     line.len()
 }
 
-// The field of a number, the verb being 0, and nothing past the last.
-pub fn field(line: &[u8], number: usize) -> &[u8] {
+// Where the field of a number starts, the first being 0, and the length past the last.
+pub fn field_start(line: &[u8], number: usize) -> usize
+    ensures { λ r. ⌜ r ≤ length (now (line .entry)) ⌝ }
+{
     let mut at = 0;
     let mut i = 0;
     while i < number {
         at = next_field(line, at);
         i += 1;
     }
+    at
+}
+
+// The field of a number, and nothing past the last.
+pub fn field(line: &[u8], number: usize) -> &[u8] {
+    let at = field_start(line, number);
     let rest = &line[at..];
     let n = find(rest, b' ');
     &rest[0..n]

@@ -15,24 +15,6 @@ use lines::output;
 use lines::reader;
 use lines::text;
 use request::Reading;
-use request::Refusal;
-
-// Messages of up to so many bytes are printed again.
-const SHOWN: usize = 512;
-
-// Document 01's number.
-fn number_of(refusal: Refusal) -> u64 {
-    match refusal {
-        Refusal::Size => 3,
-        Refusal::Response => 4,
-        Refusal::Questions => 5,
-        Refusal::Malformed => 6,
-        Refusal::WrongOpt => 7,
-        Refusal::Version => 8,
-        Refusal::OptionPast => 9,
-        Refusal::CookieLength => 10,
-    }
-}
 
 fn wide(count: u16) -> u64 {
     count as u64
@@ -50,25 +32,14 @@ fn say_cookie(qdcount: u16, cookie: Cookie) -> bool {
 
 fn say_reading(reading: Reading) -> bool {
     match reading {
-        Reading::Refused(refusal) => output::say_field(b" refused ", number_of(refusal)),
+        Reading::Refused(refusal) => output::say_refused(request::refusal_number(refusal)),
         Reading::NoCookie { qdcount } => output::say_field(b" none ", wide(qdcount)),
         Reading::CookieAt { qdcount, cookie } => say_cookie(qdcount, cookie),
     }
 }
 
-// The line again, or how many bytes its message has.
-fn say_message(line: &[u8], count: usize) -> bool {
-    if count <= SHOWN {
-        return output::say(line);
-    }
-    if !output::say_field(b"(", count as u64) {
-        return false;
-    }
-    output::say(b" bytes)")
-}
-
 fn answer(line: &[u8], message: &[u8]) -> bool {
-    if !say_message(line, message.len()) {
+    if !output::say_message(line, message.len()) {
         return false;
     }
     if !say_reading(request::read(message)) {

@@ -1,44 +1,15 @@
 // The verbs that run the crate `cookie`: judge, fresh, kept and body. Each answers one line. False: nothing more can be written.
-use crate::fields;
 use cookie::Judged;
 use cookie::Refusal;
 use cookie::Written;
+use lines::answers;
+use lines::fields;
+use lines::fields::SettingField;
 use lines::hex;
 use lines::output;
 use lines::text;
-use secret::Secrets;
-use verdict::Action;
-use verdict::Carried;
 use verdict::Mode;
-use verdict::Reason;
-use verdict::Reply;
 use verdict::Verdict;
-use verdict::Which;
-
-// What a `judge` line says of everything but the address and the body, if it says it well.
-struct Setting {
-    ok: bool,
-    mode: Mode,
-    qdcount: u16,
-    secrets: Secrets,
-    clock: u32,
-}
-
-fn setting_of(line: &[u8]) -> Setting {
-    let mode = fields::mode(text::field(line, 1));
-    let qdcount = fields::count(text::field(line, 2));
-    let secrets = fields::secrets(text::field(line, 3), text::field(line, 4));
-    let clock = fields::clock(text::field(line, 5));
-    let held = secrets.secrets;
-    let kind = mode.mode;
-    Setting {
-        ok: mode.ok & qdcount.ok & secrets.ok & clock.ok,
-        mode: kind,
-        qdcount: qdcount.count,
-        secrets: held,
-        clock: clock.clock,
-    }
-}
 
 // The number of a refusal: document 01's, and 100 for a body that can't be kept.
 fn say_refusal(refusal: Refusal) -> bool {
@@ -50,84 +21,15 @@ fn say_refusal(refusal: Refusal) -> bool {
     }
 }
 
-fn say_reason(reason: Reason) -> bool {
-    match reason {
-        Reason::Method => output::say(b" bad method"),
-        Reason::Hash => output::say(b" bad hash"),
-        Reason::Time => output::say(b" bad time"),
-    }
-}
-
-// A number that is not negative, and 0 for one that is.
-fn natural(number: i32) -> u64 {
-    if number < 0 {
-        return 0;
-    }
-    number as u64
-}
-
-// A signed number. `-age` does not fit for the least one, and `-1 - age` always does.
-fn say_age(age: i32) -> bool {
-    if age < 0 {
-        if !output::say(b"-") {
-            return false;
-        }
-        let ahead = natural(-1 - age);
-        return output::say_decimal(std::num::wrapping_add_u64(ahead, 1));
-    }
-    output::say_decimal(natural(age))
-}
-
-fn say_good(age: i32, secret: Which) -> bool {
-    if !output::say(b" good ") {
-        return false;
-    }
-    if !say_age(age) {
-        return false;
-    }
-    match secret {
-        Which::Generating => output::say(b" generating"),
-        Which::Other => output::say(b" other"),
-    }
-}
-
-fn say_verdict(verdict: Verdict) -> bool {
-    match verdict {
-        Verdict::Ignored => output::say(b" ignored"),
-        Verdict::Absent => output::say(b" absent"),
-        Verdict::ClientOnly => output::say(b" client-only"),
-        Verdict::Bad(reason) => say_reason(reason),
-        Verdict::Good { age, secret } => say_good(age, secret),
-    }
-}
-
-fn say_reply(reply: Reply) -> bool {
-    let action = reply.action;
-    let option = reply.option;
-    let is_said = match action {
-        Action::Serve => output::say(b" serve"),
-        Action::BadCookie => output::say(b" badcookie"),
-        Action::Truncate => output::say(b" truncate"),
-    };
-    if !is_said {
-        return false;
-    }
-    match option {
-        Carried::Nothing => output::say(b" none\n"),
-        Carried::Fresh => output::say(b" fresh\n"),
-        Carried::Kept => output::say(b" kept\n"),
-    }
-}
-
 // The line, the verdict and the reply that it owes.
 fn answer_found(line: &[u8], mode: Mode, qdcount: u16, verdict: Verdict, body: &[u8]) -> bool {
     if !output::say(line) {
         return false;
     }
-    if !say_verdict(verdict) {
+    if !answers::say_answer(verdict, verdict::reply_for(mode, qdcount, verdict, body)) {
         return false;
     }
-    say_reply(verdict::reply_for(mode, qdcount, verdict, body))
+    output::say(b"\n")
 }
 
 fn answer_judged(line: &[u8], mode: Mode, qdcount: u16, judged: Judged, body: &[u8]) -> bool {
@@ -149,45 +51,64 @@ fn answer_judged(line: &[u8], mode: Mode, qdcount: u16, judged: Judged, body: &[
 }
 
 // Judges, once the body is one part of a buffer: it is lent twice, to be judged and for the reply.
-fn judge(line: &[u8], setting: Setting, address: &[u8], body: &[u8]) -> bool {
+fn judge(line: &[u8], setting: SettingField, qdcount: u16, address: &[u8], body: &[u8]) -> bool {
     let mode = setting.mode;
     let secrets = setting.secrets;
     let judged = cookie::judge(mode, secrets, setting.clock, address, body);
-    answer_judged(line, mode, setting.qdcount, judged, body)
+    answer_judged(line, mode, qdcount, judged, body)
 }
 
 // A request without a COOKIE option.
-fn answer_without(line: &[u8], setting: Setting) -> bool {
-    let mode = setting.mode;
+fn answer_without(line: &[u8], mode: Mode, qdcount: u16) -> bool {
     let verdict = match mode {
         Mode::Disabled => Verdict::Ignored,
         Mode::Enabled => Verdict::Absent,
         Mode::Enforced => Verdict::Absent,
     };
-    answer_found(line, mode, setting.qdcount, verdict, b"")
+    answer_found(line, mode, qdcount, verdict, b"")
 }
 
-// `judge MODE QDCOUNT GENERATING OTHER CLOCK ADDRESS BODY`
-pub fn judge_line(line: &[u8], number: u64, bytes: &mut [u8]) -> bool {
-    if text::fields(line) != 8 {
-        return output::bad_line(number);
-    }
-    let setting = setting_of(line);
-    let mut address = [0u8; 64];
-    let read = hex::decode(text::field(line, 6), &mut address);
-    if !(setting.ok & read.ok) {
-        return output::bad_line(number);
-    }
+fn setting_of(line: &[u8]) -> SettingField {
+    fields::setting(
+        text::field(line, 1),
+        text::field(line, 3),
+        text::field(line, 4),
+        text::field(line, 5),
+    )
+}
+
+// Judges the body that a line ends with.
+fn judge_body(
+    line: &[u8],
+    number: u64,
+    setting: SettingField,
+    qdcount: u16,
+    address: &[u8],
+    bytes: &mut [u8],
+) -> bool {
     if octets::same(text::field(line, 7), b"none") {
-        return answer_without(line, setting);
+        let mode = setting.mode;
+        return answer_without(line, mode, qdcount);
     }
     let body = hex::decode_part(text::field(line, 7), bytes);
     if !body.ok {
         return output::bad_line(number);
     }
+    let n = body.count;
+    judge(line, setting, qdcount, address, &bytes[0..n])
+}
+
+// `judge MODE QDCOUNT GENERATING OTHER CLOCK ADDRESS BODY`
+pub fn judge_line(line: &[u8], number: u64, bytes: &mut [u8]) -> bool {
+    let setting = setting_of(line);
+    let qdcount = fields::count(text::field(line, 2));
+    let mut address = [0u8; 64];
+    let read = hex::decode(text::field(line, 6), &mut address);
+    if !(setting.ok & qdcount.ok & read.ok & (text::fields(line) == 8)) {
+        return output::bad_line(number);
+    }
     let n = read.count;
-    let m = body.count;
-    judge(line, setting, &address[0..n], &bytes[0..m])
+    judge_body(line, number, setting, qdcount.count, &address[0..n], bytes)
 }
 
 // The line, the refusal or 0, and the buffer afterwards.
@@ -217,13 +138,8 @@ pub fn fresh_line(line: &[u8], number: u64, bytes: &mut [u8]) -> bool {
     let mut client = [0u8; 8];
     let client_read = hex::decode(text::field(line, 5), &mut client);
     let lent = hex::decode_part(text::field(line, 1), bytes);
-    if text::fields(line) != 6 {
-        return output::bad_line(number);
-    }
-    if client_read.count != 8 {
-        return output::bad_line(number);
-    }
-    if !(secret.ok & clock.ok & read.ok & lent.ok) {
+    let is_whole = (text::fields(line) == 6) & (client_read.count == 8);
+    if !(is_whole & secret.ok & clock.ok & read.ok & lent.ok) {
         return output::bad_line(number);
     }
     let n = lent.count;
@@ -238,10 +154,7 @@ pub fn kept_line(line: &[u8], number: u64, bytes: &mut [u8]) -> bool {
     let mut body = [0u8; 64];
     let read = hex::decode(text::field(line, 2), &mut body);
     let lent = hex::decode_part(text::field(line, 1), bytes);
-    if text::fields(line) != 3 {
-        return output::bad_line(number);
-    }
-    if !(read.ok & lent.ok) {
+    if !(read.ok & lent.ok & (text::fields(line) == 3)) {
         return output::bad_line(number);
     }
     let n = lent.count;
@@ -252,11 +165,8 @@ pub fn kept_line(line: &[u8], number: u64, bytes: &mut [u8]) -> bool {
 
 // `body BUFFER`
 pub fn body_line(line: &[u8], number: u64, bytes: &mut [u8]) -> bool {
-    if text::fields(line) != 2 {
-        return output::bad_line(number);
-    }
     let buffer = hex::decode_part(text::field(line, 1), bytes);
-    if !buffer.ok {
+    if !(buffer.ok & (text::fields(line) == 2)) {
         return output::bad_line(number);
     }
     if !output::say(line) {

@@ -19,8 +19,8 @@
 // Any other line is answered by `bad line` and its number; a line of more than 262,143 bytes by `long line` and its number, and
 // nothing after it is read.
 mod cookies;
-mod fields;
 
+use lines::fields;
 use lines::hex;
 use lines::output;
 use lines::reader;
@@ -41,10 +41,7 @@ enum Verb {
 fn hash_line(line: &[u8], number: u64, bytes: &mut [u8]) -> bool {
     let key = fields::secret(text::field(line, 1));
     let message = hex::decode(text::field(line, 2), bytes);
-    if text::fields(line) != 3 {
-        return output::bad_line(number);
-    }
-    if !(key.ok & message.ok) {
+    if !(key.ok & message.ok & (text::fields(line) == 3)) {
         return output::bad_line(number);
     }
     if !output::say(line) {

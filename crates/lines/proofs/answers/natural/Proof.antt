@@ -1,4 +1,4 @@
--- `vectors::cookies::natural` is safe: past the test the number is not negative, so the cast keeps it. Assumes nothing.
+-- `lines::answers::natural` is safe: past the test the number is not negative, so the cast keeps it. Assumes nothing.
 use mathlib.Core.Path.{_≡_, sym, subst}
 use mathlib.Core.Bool.{false}
 use native.Mathlib.Nat.{lt-of-le-of-lt}
@@ -9,8 +9,8 @@ use mir.Syntax.{w32, w64}
 use mir.Val.{Fits, toZ, ofZ}
 use mir.ValLaws.{toZ-ofZ}
 use borrow.Author.Needs.{needs}
-use Rattle.vectors.proofs.cookies.natural.Statement.{statement}
-use Rattle.vectors.proofs.cookies.natural.Tie as tie
+use Rattle.lines.proofs.answers.natural.Statement.{statement}
+use Rattle.lines.proofs.answers.natural.Tie as tie
 
 not-below : (z : ℤ) → ltZ z (pos 0) ≡ false → T (nonNeg z)
 not-below (pos n) e = tt

@@ -1,4 +1,4 @@
--- `vectors::cookies::say_age` is safe: -1 less a number fits wherever the number does. Assumes nothing.
+-- `lines::answers::say_age` is safe: -1 less a number fits wherever the number does. Assumes nothing.
 use Prim.Native.Nat.{zero, suc, _<_, _-_, _^_}
 use mathlib.Core.Path.{sym, subst}
 use mathlib.Core.Bool.{Bool, true, false, cond}
@@ -10,8 +10,8 @@ use mir.Syntax.{w32}
 use mir.Val.{SFits}
 use mir.ValLaws.{toZ-ofZ}
 use borrow.Author.Needs.{needs}
-use Rattle.vectors.proofs.cookies.say_age.Statement.{statement}
-use Rattle.vectors.proofs.cookies.say_age.Tie as tie
+use Rattle.lines.proofs.answers.say_age.Statement.{statement}
+use Rattle.lines.proofs.answers.say_age.Tie as tie
 
 -- both arms of a difference are small enough, so it matters not which it takes
 either : (b : Bool) (x y : ℤ) → mag x < 2 ^ 31 → mag y < 2 ^ 31 → mag (cond b x y) < 2 ^ 31

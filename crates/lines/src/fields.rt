@@ -1,5 +1,5 @@
 // The fields of one size, read from their text. Where a field is not well written, `ok` is false and its value is any.
-use lines::hex;
+use crate::hex;
 use secret::Secret;
 use secret::Secrets;
 use verdict::Mode;
@@ -27,6 +27,14 @@ pub struct SecretField {
 pub struct SecretsField {
     pub ok: bool,
     pub secrets: Secrets,
+}
+
+// How a server treats cookies, the secrets that it holds and what its clock says.
+pub struct SettingField {
+    pub ok: bool,
+    pub mode: Mode,
+    pub secrets: Secrets,
+    pub clock: u32,
 }
 
 pub fn mode(text: &[u8]) -> ModeField {
@@ -95,5 +103,25 @@ pub fn secrets(generating: &[u8], other: &[u8]) -> SecretsField {
             generating: generates,
             other: accepts,
         },
+    }
+}
+
+// A mode, a generating secret, another or `-`, and a clock.
+pub fn setting(
+    mode_text: &[u8],
+    generating: &[u8],
+    other: &[u8],
+    clock_text: &[u8],
+) -> SettingField {
+    let mode_field = mode(mode_text);
+    let held = secrets(generating, other);
+    let now = clock(clock_text);
+    let kind = mode_field.mode;
+    let both = held.secrets;
+    SettingField {
+        ok: mode_field.ok & held.ok & now.ok,
+        mode: kind,
+        secrets: both,
+        clock: now.clock,
     }
 }
