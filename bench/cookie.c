@@ -1,24 +1,12 @@
 // The proved server cookies, compiled, against plain C and, where it is there, libknot: first that they agree, then their times,
 // measured in turns.
 #include "cookie.h"
-#include "measure.h"
-#ifdef LIBKNOT
-#include <libknot/cookies.h>
-#include <libknot/errcode.h>
-#include <netinet/in.h>
-#endif
-
-uint64_t plain_siphash24(const uint8_t *key, const uint8_t *message, size_t length);
+#include "knot.h"
+#include "signing.h"
 
 enum { ROUNDS = 2001, CALLS = 2000, COMPARED = 400000, COOKIES = 64 };
 
 static uint64_t sum;
-
-static uint32_t below(uint32_t n) { return (next() >> 32) * n >> 32; }
-
-static void fill(void *p, size_t n) {
-    for (size_t i = 0; i < n; i++) ((uint8_t *)p)[i] = next() >> 56;
-}
 
 static uint64_t secret[2], other[2];
 
@@ -32,70 +20,22 @@ struct Cookie {
 #endif
 };
 
-// Dates the server cookie and gives it its hash under a key.
-static void sign(struct Cookie *c, const uint64_t key[2], uint32_t timestamp) {
-    uint8_t message[48];
-    for (int i = 0; i < 4; i++) c->body[12 + i] = timestamp >> (24 - 8 * i);
-    memcpy(message, c->body, 16);
-    memcpy(message + 16, c->address, c->address_length);
-    uint64_t hash = plain_siphash24((const uint8_t *)key, message, 16 + c->address_length);
-    memcpy(c->body + 16, &hash, 8);
-}
-
 #ifdef LIBKNOT
 static void for_knot(struct Cookie *c) {
-    memset(&c->from, 0, sizeof c->from);
-    if (c->address_length == 4) {
-        c->from.ss_family = AF_INET;
-        memcpy(&((struct sockaddr_in *)&c->from)->sin_addr, c->address, 4);
-    } else {
-        c->from.ss_family = AF_INET6;
-        memcpy(&((struct sockaddr_in6 *)&c->from)->sin6_addr, c->address, 16);
-    }
+    c->from = knot_address(c->address, c->address_length);
     memcpy(c->client.data, c->body, c->client.len = 8);
     memcpy(c->server.data, c->body + 8, c->server.len = 16);
-}
-
-static knot_edns_cookie_params_t knot_params(const uint64_t key[2], uint32_t clock) {
-    knot_edns_cookie_params_t p = {.version = 1, .timestamp = clock, .lifetime_before = 3600, .lifetime_after = 300};
-    memcpy(p.secret, key, 16);
-    return p;
-}
-
-// Two secrets are two checks.
-static int knot_judge(const struct Cookie *c, knot_edns_cookie_params_t params[2], int secrets) {
-    for (int i = 0; i < secrets; i++) {
-        params[i].client_addr = &c->from;
-        if (knot_edns_cookie_server_check(&c->server, &c->client, &params[i]) == KNOT_EOK) return 1;
-    }
-    return 0;
 }
 #endif
 
 // ---- whether they agree
 
 static void random_cookie(struct Cookie *c, uint32_t clock) {
-    static const int32_t ages[] = {INT32_MIN, -301, -300, -299, -1, 0, 1, 1800, 3599, 3600, 3601, INT32_MAX};
     c->address_length = below(16) ? (below(2) ? 4 : 16) : below(21);
     c->body_length = below(8) ? 24 : below(45);
     fill(c->address, sizeof c->address);
     fill(c->body, sizeof c->body);
-    if (below(16)) c->body[8] = 1;
-    if (below(2)) memset(c->body + 9, 0, 3);
-    uint32_t age = next();
-    if (below(8)) age = below(2) ? (uint32_t)ages[below(sizeof ages / sizeof *ages)] : below(4200) - 400;
-    sign(c, below(3) ? secret : other, clock - age);
-    if (!below(8)) c->body[below(24)] ^= 1 << below(8);
-    if (!below(32)) fill(c->body + 16, 8);
-}
-
-static uint32_t random_clock(void) {
-    switch (below(4)) {
-    case 0: return next();
-    case 1: return below(8000);
-    case 2: return UINT32_MAX - below(8000);
-    default: return 1700000000 + below(100000000);
-    }
+    sign_randomly(c->body, below(3) ? secret : other, clock, c->address, c->address_length);
 }
 
 static void compare(void) {
@@ -127,13 +67,12 @@ static void compare(void) {
         differ += plain_kept(kept, length, c.body, c.body_length) != proved_kept(other_kept, length, c.body, c.body_length)
                   || memcmp(kept, other_kept, 40);
 #ifdef LIBKNOT
-        // It compares timestamps as plain numbers, so it is asked only where neither bound wraps.
-        if (clock < 3600 || clock > UINT32_MAX - 300) continue;
+        if (!knot_clock(clock)) continue;
         knot_edns_cookie_params_t params[2] = {knot_params(secret, clock), knot_params(other, clock)};
         if (mode != DISABLED && c.body_length == 24 && (c.address_length == 4 || c.address_length == 16)) {
             for_knot(&c);
             asked++;
-            knot_differ += (answer >= GOOD_GENERATING) != knot_judge(&c, params, secrets);
+            knot_differ += (answer >= GOOD_GENERATING) != knot_judge(&c.server, &c.client, &c.from, params, secrets);
             knot_edns_cookie_t server;
             params[0].client_addr = &c.from;
             int ok = knot_edns_cookie_server_generate(&server, &c.client, &params[0]) == KNOT_EOK && server.len == 16;
@@ -173,7 +112,7 @@ static void prepare(enum Row row) {
         memcpy(c->body + 8, "\1\0\0\0", 4);
         c->body_length = 24;
         c->address_length = row == JUDGE6 || row == FRESH6 ? 16 : 4;
-        sign(c, row == JUDGE_OTHER || row == JUDGE_HASH ? other : secret, now - below(1800));
+        sign(c->body, row == JUDGE_OTHER || row == JUDGE_HASH ? other : secret, now - below(1800), c->address, c->address_length);
 #ifdef LIBKNOT
         for_knot(c);
 #endif
@@ -198,7 +137,7 @@ static double once(enum Row row, enum Side side) {
 #ifdef LIBKNOT
         if (side == KNOT) {
             params[0].client_addr = &c->from;
-            if (row < FRESH4) sum += knot_judge(c, params, secrets);
+            if (row < FRESH4) sum += knot_judge(&c->server, &c->client, &c->from, params, secrets);
             else sum += knot_edns_cookie_server_generate(&server, &c->client, &params[0]);
             continue;
         }
@@ -217,11 +156,6 @@ static double once(enum Row row, enum Side side) {
     memcpy(&word, output + 20, 8);
     sum += word;
     return took;
-}
-
-static double median(double *x) {
-    qsort(x, ROUNDS, sizeof *x, ascending);
-    return x[ROUNDS / 2];
 }
 
 static void measure(enum Row row) {
@@ -244,8 +178,8 @@ static void measure(enum Row row) {
         to_plain[r] = took[PROVED][r] / took[PLAIN][r];
         if (knot) to_knot[r] = took[KNOT][r] / took[PROVED][r];
     }
-    printf("%-26s  %8.1f  %9.1f  %6.2f", names[row], median(took[PLAIN]), median(took[PROVED]), median(to_plain));
-    if (knot) printf("  %10.1f  %14.2f", median(took[KNOT]), median(to_knot));
+    printf("%-26s  %8.1f  %9.1f  %6.2f", names[row], median(took[PLAIN], ROUNDS), median(took[PROVED], ROUNDS), median(to_plain, ROUNDS));
+    if (knot) printf("  %10.1f  %14.2f", median(took[KNOT], ROUNDS), median(to_knot, ROUNDS));
     printf("\n");
 }
 

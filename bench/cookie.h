@@ -1,4 +1,5 @@
 // Server cookies as bench/cookie.c calls them: in plain C (plain_cookie.c) and the proved ones (exported by bench/run).
+#pragma once
 #include <stddef.h>
 #include <stdint.h>
 

@@ -1,4 +1,5 @@
-// What the measurements need: a clock, and numbers that are the same in every run.
+// What the measurements need: a clock, numbers that are the same in every run, medians.
+#pragma once
 #include <stdint.h>
 #include <stdio.h>
 #include <stdlib.h>
@@ -17,7 +18,18 @@ static uint64_t next(void) { // xorshift64*
     return x * 0x2545f4914f6cdd1d;
 }
 
+static inline uint32_t below(uint32_t n) { return (next() >> 32) * n >> 32; }
+
+static inline void fill(void *p, size_t n) {
+    for (size_t i = 0; i < n; i++) ((uint8_t *)p)[i] = next() >> 56;
+}
+
 static int ascending(const void *a, const void *b) {
     double x = *(const double *)a, y = *(const double *)b;
     return (x > y) - (x < y);
+}
+
+static double median(double *x, int n) {
+    qsort(x, n, sizeof *x, ascending);
+    return x[n / 2];
 }

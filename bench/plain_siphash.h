@@ -1,4 +1,5 @@
 // SipHash-2-4 in plain C, written from the SipHash paper, to be inlined: the baseline of bench/run.
+#pragma once
 #include <stddef.h>
 #include <stdint.h>
 #include <string.h>

@@ -1,81 +1,14 @@
 // The proved reading of a request, compiled, against plain C and, where it is there, libknot: first that they agree, then their
 // times, measured in turns.
 #include "request.h"
-#include "measure.h"
-#ifdef LIBKNOT
-#include <libknot/libknot.h>
-#endif
+#include "knot.h"
+#include "messages.h"
 
-enum { ROUNDS = 2001, WORK = 40000, COMPARED = 300000, LONGEST = 65535, MESSAGES = 32, COOKIE = 39, QUESTION = 22 };
+enum { ROUNDS = 2001, WORK = 40000, COMPARED = 300000, MESSAGES = 32 };
 
 static uint64_t sum;
 
-static uint32_t below(uint32_t n) { return (next() >> 32) * n >> 32; }
-
 // ---- messages
-
-struct Message {
-    size_t length;
-    uint8_t bytes[LONGEST + 1];
-};
-
-static void put(struct Message *m, const void *bytes, size_t n) {
-    memcpy(m->bytes + m->length, bytes, n);
-    m->length += n;
-}
-
-static void put16(struct Message *m, unsigned x) {
-    uint8_t bytes[2] = {x >> 8, x};
-    put(m, bytes, 2);
-}
-
-static void put_random(struct Message *m, size_t n) {
-    while (n--) m->bytes[m->length++] = next() >> 56;
-}
-
-static void header(struct Message *m, unsigned qdcount, unsigned ancount, unsigned arcount) {
-    m->length = 0;
-    put_random(m, 2);
-    put16(m, 0x0100);
-    put16(m, qdcount);
-    put16(m, ancount);
-    put16(m, 0);
-    put16(m, arcount);
-}
-
-static void put_label(struct Message *m, size_t n) {
-    m->bytes[m->length++] = n;
-    while (n--) m->bytes[m->length++] = 'a' + below(26);
-}
-
-// Three labels: 22 bytes with type and class.
-static void put_question(struct Message *m) {
-    put_label(m, 3);
-    put_label(m, 7);
-    put_label(m, 4);
-    put(m, "\0\0\1\0\1", 5);
-}
-
-// What follows a record's owner, but for the data.
-static void put_fields(struct Message *m, unsigned kind, unsigned size) {
-    put16(m, kind);
-    put16(m, 1232);
-    put(m, "\0\0\0\0", 4);
-    put16(m, size);
-}
-
-static void put_option(struct Message *m, unsigned code, unsigned size) {
-    put16(m, code);
-    put16(m, size);
-    put_random(m, size);
-}
-
-// An OPT record with a cookie: 39 bytes.
-static void put_cookie(struct Message *m) {
-    put(m, "", 1);
-    put_fields(m, 41, 28);
-    put_option(m, 10, 24);
-}
 
 enum Shape { QUERY, NO_OPT, SIX_OPTIONS, NAME, RECORDS, LABELS, OPTIONS, COOKIES, OPTS, POINTERS, OWNERS, SHAPES };
 static const char *const names[SHAPES] = {
@@ -176,54 +109,6 @@ static long differences(const struct Message *m, long refused[11]) {
     return differ;
 }
 
-static void put_name(struct Message *m) {
-    switch (below(8)) {
-    case 0: put(m, "\300\14", 2); return;
-    case 1: put_label(m, 1 + below(63)); put(m, "\300\14", 2); return;
-    case 2: put_label(m, 1 + below(63)); put_label(m, 1 + below(20)); break;
-    case 3: put_label(m, 1 + below(5)); break;
-    }
-    put(m, "", 1);
-}
-
-static void put_any_option(struct Message *m) {
-    static const uint8_t sizes[] = {0, 1, 7, 8, 9, 15, 16, 17, 24, 24, 24, 24, 39, 40, 41, 60};
-    put_option(m, below(3) ? 10 : below(20), sizes[below(sizeof sizes)]);
-}
-
-// A message with some records and options, whole or damaged.
-static void random_message(struct Message *m) {
-    unsigned questions = below(16) ? below(8) > 0 : below(4), before = below(4) ? 0 : below(4), after = below(4) ? 0 : below(4);
-    unsigned opts = below(8) ? 1 : below(3);
-    header(m, questions, before, after + opts);
-    for (unsigned i = 0; i < questions; i++) put_name(m), put(m, "\0\1\0\1", 4);
-    for (unsigned i = 0; i < before + after + opts; i++) {
-        int opt = i >= before + after || !below(32);
-        if (opt && below(16)) put(m, "", 1);
-        else put_name(m);
-        put16(m, opt ? 41 : below(64));
-        put16(m, 1232);
-        put(m, "\0\0\0\0", 4);
-        if (!below(16)) m->bytes[m->length - 1 - below(4)] = below(256);
-        size_t at = m->length;
-        put16(m, 0);
-        if (opt)
-            for (unsigned k = below(4); k > 0; k--) put_any_option(m);
-        else
-            put_random(m, below(40));
-        size_t size = m->length - at - 2;
-        m->bytes[at] = size >> 8;
-        m->bytes[at + 1] = size;
-    }
-    if (!below(3)) return;
-    if (!below(4)) m->bytes[below(m->length)] ^= 1 << below(8);
-    if (!below(4)) m->bytes[below(m->length)] = next() >> 56;
-    if (!below(8)) m->bytes[4 + below(8)] = below(3);
-    if (!below(8)) m->length = below(m->length + 1);
-    if (!below(16)) put_random(m, below(20));
-    if (!below(64)) m->length = 12, put_random(m, below(300));
-}
-
 static struct Message message;
 static const size_t lengths[] = {1024, 8192, LONGEST};
 
@@ -231,7 +116,8 @@ static void compare(void) {
     long differ = 0, refused[11] = {0};
     struct Message *m = &message;
     for (long i = 0; i < COMPARED; i++) {
-        random_message(m);
+        whole_message(m);
+        damage(m);
         differ += differences(m, refused);
     }
     for (enum Shape shape = 0; shape < SHAPES; shape++) {
@@ -272,24 +158,9 @@ static void prepare(enum Shape shape, size_t longest) {
 }
 
 #ifdef LIBKNOT
-// The packets of libknot are laid in one block, which is free again with the next query: its cheapest way.
-static uint8_t block[1 << 16];
-static size_t used;
-
-static void *from_block(void *context, size_t n) {
-    (void)context;
-    void *p = block + used;
-    used += (n + 15) / 16 * 16;
-    return used <= sizeof block ? p : 0;
-}
-
-static void never_freed(void *p) { (void)p; }
-
 static uint64_t knot_read(uint8_t *bytes) {
-    knot_mm_t mm = {.alloc = from_block, .free = never_freed};
-    used = 0;
-    knot_pkt_t *packet = knot_pkt_new(bytes, length, &mm);
-    if (!packet || knot_pkt_parse(packet, 0) != KNOT_EOK) return 0;
+    knot_pkt_t *packet = knot_packet(bytes, length);
+    if (!packet) return 0;
     const uint8_t *option = knot_pkt_edns_option(packet, KNOT_EDNS_OPTION_COOKIE);
     uint64_t word = 0;
     if (option) memcpy(&word, knot_edns_opt_get_data((uint8_t *)option), 8);
@@ -324,11 +195,6 @@ static double once(enum Side side, long calls) {
         }
     }
     return (seconds() - began) / calls * 1e9;
-}
-
-static double median(double *x, int n) {
-    qsort(x, n, sizeof *x, ascending);
-    return x[n / 2];
 }
 
 static void measure(enum Shape shape, size_t longest) {

@@ -9,10 +9,6 @@ enum { ROUNDS = 2001, LONGEST = 65535, COMPARED = 300000 };
 static uint8_t key[16], message[LONGEST];
 static uint64_t sum;
 
-static void fill(uint8_t *p, size_t n) {
-    for (size_t i = 0; i < n; i++) p[i] = next() >> 56;
-}
-
 static void compare(void) {
     long differ = 0;
     for (long i = 0; i < COMPARED; i++) {
@@ -47,10 +43,7 @@ static void measure(size_t length) {
         if (!first) plain[r] = once(plain_siphash24, length, calls);
         ratio[r] = proved[r] / plain[r];
     }
-    qsort(plain, rounds, sizeof *plain, ascending);
-    qsort(proved, rounds, sizeof *proved, ascending);
-    qsort(ratio, rounds, sizeof *ratio, ascending);
-    printf("%6zu  %9.1f  %9.1f  %6.2f\n", length, plain[rounds / 2], proved[rounds / 2], ratio[rounds / 2]);
+    printf("%6zu  %9.1f  %9.1f  %6.2f\n", length, median(plain, rounds), median(proved, rounds), median(ratio, rounds));
 }
 
 int main(void) {
