@@ -6,7 +6,7 @@ use mathlib.Core.List.{List, [], _∷_, _++_, map}
 use Prim.Native.Nat.{ℕ, _+_, _≤_}
 use lib.ListN.{length, replicate}
 use Rattle.octets.specs.Numbers.{beBytes, printed, upTo}
-use Rattle.octets.specs.Refusals.{Row}
+use Rattle.octets.specs.Refusals.{Row, _when_}
 use Rattle.message.specs.Cases.{flagged, question, plain}
 use Rattle.message.specs.Message.{qdcount}
 use Rattle.edns.specs.declared.Cookie.{Cookie}
@@ -42,6 +42,7 @@ numbers (r ∷ rows) = r .number ∷ numbers rows
 pub record TableHolds : Type 0 where
   pub in-order : (s : List ℕ) → numbers (checks s) ≡ 3 ∷ 4 ∷ 5 ∷ 6 ∷ 7 ∷ 8 ∷ 9 ∷ 10 ∷ []
   pub in-disabled : (s : List ℕ) → numbers (headChecks s) ≡ 3 ∷ 4 ∷ []
+  pub head-rows : (s : List ℕ) → headChecks s ≡ 3 when wrongSize s ∷ 4 when isResponse s ∷ []
   pub too-short : (s : List ℕ) → length s ≤ 11 → wrongSize s ≡ true
   pub long-enough : (s : List ℕ) → 12 ≤ length s → length s ≤ 65535 → wrongSize s ≡ false
   pub too-long : (s : List ℕ) → 65536 ≤ length s → wrongSize s ≡ true

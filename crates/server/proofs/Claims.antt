@@ -36,13 +36,13 @@ use Rattle.cookie.specs.ServerCookie.{CookieMethod, judgeBody, judgement, isAdd
 use Rattle.cookie.specs.ServerCookie.Answer.{found}
 use Rattle.server.proofs.ReplyLaws.{judgement-is, client-there, kept-24}
 use Rattle.server.proofs.RespondLaws.{onReading, read-is, ignoring-is}
-use Rattle.server.specs.Claims.{RefusedByFirst, TheFirstRefuses, Carries, GoodWhen, GoodExactlyWhen, Replies, EveryReply, freshFor, Written, TheOptionIsWritten}
-use Rattle.server.specs.Server.{Answer, refused, replied, Outcome, _leaving_, checks, unlessDisabled, cookieIn, verdictOn, refusing, replying, respond, withFront}
+use Rattle.server.specs.Claims.{RefusedByFirst, TheFirstRefuses, Carries, CarriedIsFound, GoodWhen, GoodExactlyWhen, Replies, EveryReply, freshFor, Written, TheOptionIsWritten}
+use Rattle.server.specs.Server.{Answer, refused, replied, Outcome, _leaving_, checks, unlessDisabled, cookieIn, verdictOn, refusing, replying, respond}
 use Rattle.server.specs.Steps.{withOption, onCookie, ignoring}
 
 -- ---- modes
 
-mode-on : (mode : Mode) → (mode ≡ Disabled → ⊥) → isDisabled mode ≡ false
+pub mode-on : (mode : Mode) → (mode ≡ Disabled → ⊥) → isDisabled mode ≡ false
 mode-on Disabled on = absurd (on refl)
 mode-on Enabled on = refl
 mode-on Enforced on = refl
@@ -87,7 +87,7 @@ module _ (m : CookieMethod) (mode : Mode) (secrets : Secrets) (clock : ℕ) (add
       pick (suc k) e = ap (λ (a : Answer). a leaving output) e
 
   -- so that a reply is one where none applies
-  replied-none : (v : Finding) (o : Owed) → respond m mode secrets clock address message output .answer ≡ replied v o → NoneApplies rows
+  pub replied-none : (v : Finding) (o : Owed) → respond m mode secrets clock address message output .answer ≡ replied v o → NoneApplies rows
   unfolding respond
   replied-none v o e = pick (first rows) refl e
     where
@@ -99,7 +99,7 @@ numberIn : Answer → ℕ
 numberIn (refused n) = n
 numberIn (replied v o) = 0
 
-pub the-first-refuses : TheFirstRefuses
+pub the-first-refuses : TheFirstRefuses respond
 unfolding numberIn
 the-first-refuses m mode secrets clock address message output =
     let table = numbered mode address message output in
@@ -136,13 +136,13 @@ module _ (m : CookieMethod) (mode : Mode) (secrets : Secrets) (clock : ℕ) (add
 
   -- that no check refuses
   module _ (nothing : NoneApplies (checks mode address message output)) where
-    room : 28 ≤ length output
+    pub room : 28 ≤ length output
     room = ltb-false (length output) 28 (this-not _ _ nothing)
 
-    from : isAddress address ≡ true
+    pub from : isAddress address ≡ true
     from = not-false (isAddress address) (this-not _ _ (none-behind _ _ nothing))
 
-    passed : NoneApplies (request.checks message)
+    pub passed : NoneApplies (request.checks message)
     passed = by mode on (none-behind _ _ (none-behind _ _ nothing))
       where
         by : (n : Mode) → isDisabled n ≡ false → NoneApplies (request.headChecks message ++ unlessDisabled n (request.restChecks message)) → NoneApplies (request.checks message)
@@ -176,15 +176,20 @@ module _ (m : CookieMethod) (mode : Mode) (secrets : Secrets) (clock : ℕ) (add
       legal : isBody body ≡ true
       legal = rw body-long (subst AnswerLegal read-cookie (request-legal message))
 
+pub carried-is-found : CarriedIsFound
+carried-is-found message body nothing carries =
+    let e = first-is-found message .when-found nothing (carries .start) (carries .end) (carries .the-cookie) in
+    carries .the-body ∙ sym (first-is-found message .part (qdcount message) (carries .start) (carries .end) e)
+
 -- how a reply comes about
-data Way (m : CookieMethod) (mode : Mode) (secrets : Secrets) (clock : ℕ) (address message output : List ℕ) : Type 0 where
+pub data Way (m : CookieMethod) (mode : Mode) (secrets : Secrets) (clock : ℕ) (address message output : List ℕ) : Type 0 where
   without-one : WithoutCookie message → respond m mode secrets clock address message output ≡ onCookie m mode secrets clock address (qdcount message) output none
       → Way m mode secrets clock address message output
   with-one : (body : List ℕ) → Carries message body → isBody body ≡ true → 28 ≤ length output → isAddress address ≡ true
       → respond m mode secrets clock address message output ≡ onCookie m mode secrets clock address (qdcount message) output (some body)
       → Way m mode secrets clock address message output
 
-way : (m : CookieMethod) (mode : Mode) (secrets : Secrets) (clock : ℕ) (address message output : List ℕ) → isDisabled mode ≡ false
+pub way : (m : CookieMethod) (mode : Mode) (secrets : Secrets) (clock : ℕ) (address message output : List ℕ) → isDisabled mode ≡ false
     → NoneApplies (checks mode address message output) → Way m mode secrets clock address message output
 way m mode secrets clock address message output on nothing = pick (request.request message) refl
   where
@@ -256,7 +261,7 @@ module _ (m : CookieMethod) (mode : Mode) (enabled : mode ≡ Disabled → ⊥) 
       reply-to space (address-true address (g .from)) nothing body carries (good a w) (good-exactly-when m mode enabled secrets clock address body a w .1 g)
       ∙ ap (replied (good a w)) (good-served mode on (qdcount message) a w body)
 
-pub request-good : GoodExactlyWhen
+pub request-good : GoodExactlyWhen respond
 request-good m mode enabled secrets clock address message output a w =
     record {
       is-good = is-good m mode enabled secrets clock address message output a w;
@@ -265,7 +270,7 @@ request-good m mode enabled secrets clock address message output a w =
 
 -- ---- every other reply
 
-pub every-reply : EveryReply
+pub every-reply : EveryReply respond
 every-reply m secrets clock address message output space is =
     let client = address-true address is in
     record {
@@ -384,7 +389,7 @@ module _ (m : CookieMethod) (mode : Mode) (secrets : Secrets) (clock : ℕ) (add
       let same = ap (λ (k : ℕ). outputAfter k (keptOption (c .body)) output) done ∙ sym (c .after) in
       (c .body, c .carries, long, subst (λ (l : List ℕ). Holding output l (c .body)) same (written-whole .kept (c .body) output (c .space) long))
 
-pub the-option-is-written : TheOptionIsWritten
+pub the-option-is-written : TheOptionIsWritten respond
 the-option-is-written m eight mode secrets clock address message output v s =
     record {
       nothing = nothing-written m mode secrets clock address message output v s;

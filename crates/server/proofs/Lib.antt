@@ -1,5 +1,6 @@
 pub mod Cases
 pub mod Claims
+pub mod OneAnswer
 pub mod RefusalLaws
 pub mod ReplyLaws
 pub mod RespondLaws

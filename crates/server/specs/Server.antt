@@ -2,10 +2,10 @@
 -- COOKIE body, the reply table and the bytes of an option stand in the crates below, and here is what is made of them. Assumes nothing.
 use Prim.Native.Nat.{ℕ}
 use mathlib.Core.Bool.{not, cond}
-use mathlib.Core.List.{List, [], _∷_, _++_}
+use mathlib.Core.List.{List, [], _∷_}
 use mathlib.Core.Option.{Option, none, some, Option·getD}
 use lib.Dec.{eqb, leb, ltb}
-use lib.ListN.{length, drop}
+use lib.ListN.{length}
 use Rattle.octets.specs.Refusals.{Row, _when_, first, answered}
 use Rattle.edns.specs.Options.{optionPast}
 use Rattle.message.specs.Message.{qdcount, malformed, wrongOpt}
@@ -18,12 +18,12 @@ use Rattle.verdict.specs.Findings.Finding.{ignored, absent}
 use Rattle.verdict.specs.ReplyTable.{Owed, replyOwed}
 use Rattle.verdict.specs.declared.Mode.{Mode}
 use Rattle.verdict.specs.declared.Mode.the-variants.{Disabled, Enabled, Enforced}
-use Rattle.cookie.specs.CookieOption.{carriedOption}
+use Rattle.cookie.specs.CookieOption.{withFront, carriedOption}
 use Rattle.cookie.specs.ServerCookie.{CookieMethod, judgeBody, isAddress}
 
 -- ---- the first table: which requests are refused, and what is owed to them
 
--- mode Disabled skips some checks
+-- mode Disabled skips checks 5 to 10
 abbrev pub unlessDisabled : Mode → List Row → List Row
 unlessDisabled Disabled rows = []
 unlessDisabled Enabled rows = rows
@@ -45,12 +45,12 @@ checks mode address message output =
     ∷ 10 when wrongCookie message
     ∷ [])
 
--- the reply owed to a refused request: none where the caller is at fault, none at all, or one with this RCODE
+-- what is owed to a refused request: nothing of its own, since the caller is at fault; no reply; or one with this RCODE
 pub data Due : Type 0 where
   callersFault noReply : Due
   rcode : ℕ → Due
 
--- the table's last column, by the refusal's number: FORMERR is 1, BADVERS 16
+-- the table's last column, by the refusal's number, of 1 to 10: FORMERR is RCODE 1, BADVERS 16
 abbrev pub due : ℕ → Due
 due n = cond (leb n 2) callersFault (cond (leb n 4) noReply (cond (eqb n 8) (rcode 16) (rcode 1)))
 
@@ -62,7 +62,7 @@ bodyIn message (request.refused n) = none
 bodyIn message (request.noCookie q) = none
 bodyIn message (request.cookie q start end) = some (bodyAt message (request.cookie q start end))
 
--- that of a message
+-- that of a message. Nothing comes of it where a check refuses the message, nor in mode Disabled, which skips the checks that make sense of it
 abbrev pub cookieIn : List ℕ → Option (List ℕ)
 cookieIn message = bodyIn message (foundIn message)
 
@@ -98,11 +98,7 @@ a leaving output = record { answer = a; output = output }
 abbrev pub refusing : List ℕ → ℕ → Outcome
 refusing output n = refused n leaving output
 
--- an option stands at the front of the output, and the bytes beyond it are as they were: all of them where there is no option
-abbrev pub withFront : List ℕ → List ℕ → List ℕ
-withFront option output = option ++ drop (length option) output
-
--- the second table: the reply that a verdict owes, and its option
+-- the second table: the reply that a verdict owes, and its option at the front of the output
 abbrev pub replying : CookieMethod → Mode → Secrets → ℕ → List ℕ → ℕ → List ℕ → List ℕ → Finding → Outcome
 replying m mode secrets clock address q body output verdict =
     let owed = replyOwed mode q verdict body in

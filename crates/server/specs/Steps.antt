@@ -12,9 +12,9 @@ use Rattle.verdict.specs.ReplyTable.Sent.{serve}
 use Rattle.verdict.specs.declared.Carried.{Carried}
 use Rattle.verdict.specs.declared.Carried.the-variants.{Nothing}
 use Rattle.verdict.specs.declared.Mode.{Mode}
-use Rattle.cookie.specs.CookieOption.{carriedOption}
+use Rattle.cookie.specs.CookieOption.{withFront, carriedOption}
 use Rattle.cookie.specs.ServerCookie.{CookieMethod}
-use Rattle.server.specs.Server.{Answer, refused, replied, Outcome, judged, withFront, replying}
+use Rattle.server.specs.Server.{Answer, refused, replied, Outcome, judged, replying}
 
 -- the output with the option of a reply
 abbrev pub withOption : CookieMethod → Secrets → ℕ → List ℕ → List ℕ → Carried → List ℕ → List ℕ

@@ -10,7 +10,7 @@ pub use responses::respond;
 use verdict::Reply;
 use verdict::Verdict;
 
-// Why a request is not answered: document 01's refusals 1 to 10.
+// Why a request is refused: document 01's refusals 1 to 10.
 pub enum Refusal {
     // 1: an output of less than 28 bytes.
     Output,
@@ -22,7 +22,7 @@ pub enum Refusal {
 
 // What is owed to whoever sent a request that is refused.
 pub enum ErrorReply {
-    // No fault of the request's: the caller lent too little, or gave no address.
+    // The caller's fault, refusals 1 and 2: no fault of the request's.
     CallersFault,
     // No reply at all.
     Nothing,
