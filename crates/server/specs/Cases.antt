@@ -73,16 +73,19 @@ sevens n = replicate n 7
 abbrev pub lent : List ℕ
 lent = upTo 101 40
 
--- B.4's secret, the one that follows it, its address and the body that came
+-- B.4's secret
 abbrev pub former : Secret
 former = secretOf (printed 16 0xdd3bdf9344b678b185a6f5cb60fca715)
 
+-- the one that follows it
 abbrev pub latter : Secret
 latter = secretOf (printed 16 0x445536bcd2513298075a5d379663c962)
 
+-- its address
 abbrev pub sixAddress : List ℕ
 sixAddress = printed 16 0x20010db80220000159ded0f4876982b8
 
+-- the body that came from there
 abbrev pub p5Body : List ℕ
 p5Body = printed 24 0x22681ab97d52c298010000005cf7c57926556bd0934c72f8
 
@@ -98,20 +101,23 @@ to mode clock message = respond sipHashMethod mode (One s1) clock (printed 4 0xc
 abbrev pub atP1 : Mode → List ℕ → Outcome
 atP1 mode message = to mode 0x5cf79f11 message
 
--- a COOKIE option with this body; a query, and a message of no question, with that option alone
+-- a COOKIE option with this body
 abbrev pub option : List ℕ → List ℕ
 option body = (0 ∷ 10 ∷ 0 ∷ length body ∷ []) ++ body
 
+-- a query with that option alone
 abbrev pub asked : List ℕ → List ℕ
 asked body = asking (option body)
 
+-- the same without a question
 abbrev pub notAsked : List ℕ → List ℕ
 notAsked body = flagged 1 0 0 0 1 ++ opt 0 (option body)
 
--- P1's cookie, and the output with its option at the front: bytes beyond 28 are those lent
+-- P1's cookie
 abbrev pub p1 : List ℕ
 p1 = printed 24 0x2464c4abcf10c957010000005cf79f111f8130c3eee29480
 
+-- the output with its option at the front: bytes beyond 28 are those lent
 abbrev pub p1After : List ℕ
 p1After = printed 40 0x000a00182464c4abcf10c957010000005cf79f111f8130c3eee294808182838485868788898a8b8c
 
