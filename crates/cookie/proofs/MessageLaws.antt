@@ -1,11 +1,11 @@
--- What the proofs of `is_address`, `word` and `hash` cite: lengths, words of bytes, and the hash of words. Assumes nothing.
+-- What the proofs of `is_address`, `first_word`, `word` and `hash` cite: lengths, words of bytes, and the hash of words. Assumes nothing.
 use mathlib.Core.Path.{_≡_, sym, ap, ap₂, _∙_}
 use mathlib.Core.Bool.{true, false}
 use mathlib.Core.List.{List, [], _∷_, _++_, append-assoc}
-use Prim.Native.Nat.{ℕ, _+_, _≤_}
+use Prim.Native.Nat.{ℕ, _+_, _-_, _≤_}
 use native.Mathlib.Omega.{arith}
 use borrow.Author.Tests.{eqb-true, eq-eqb, ne-eqb}
-use lib.ListN.{length, take, drop, getD}
+use lib.ListN.{length, take, drop, getD, length-drop}
 use lib.Seq.{take-add, take-all}
 use mir.Syntax.{w8}
 use mir.Val.{Fits}
@@ -38,10 +38,14 @@ address-16 s is n4 = eqb-true (length s) 16 ((rw (ne-eqb (length s) 4 n4) at is)
 -- ---- words
 
 -- eight bytes read as a word are the bytes of that word
-pub word-is : (s : List ℕ) (at w : ℕ) → at + 8 ≤ length s → ((i : ℕ) → Fits w8 (getD s i 0))
-    → w ≡ leNumber (getD s at 0 ∷ getD s (at + 1) 0 ∷ getD s (at + 2) 0 ∷ getD s (at + 3) 0 ∷ getD s (at + 4) 0 ∷ getD s (at + 5) 0 ∷ getD s (at + 6) 0 ∷ getD s (at + 7) 0 ∷ [])
-    → leBytes 8 w ≡ take 8 (drop at s)
-word-is s at w within bytes e = ap (leBytes 8) (le64-at at s w e) ∙ part-again 8 at s within (λ i. bytes i .fits)
+pub first-word-is : (s : List ℕ) (w : ℕ) → 8 ≤ length s → ((i : ℕ) → Fits w8 (getD s i 0))
+    → w ≡ leNumber (getD s 0 0 ∷ getD s 1 0 ∷ getD s 2 0 ∷ getD s 3 0 ∷ getD s 4 0 ∷ getD s 5 0 ∷ getD s 6 0 ∷ getD s 7 0 ∷ [])
+    → leBytes 8 w ≡ take 8 s
+first-word-is s w within bytes e = ap (leBytes 8) (le64-at 0 s w e) ∙ part-again 8 0 s (omega arith) (λ i. bytes i .fits)
+
+-- also of the rest from a place on, which is a part up to the end
+pub word-is : (s : List ℕ) (at w : ℕ) → at + 8 ≤ length s → leBytes 8 w ≡ take 8 (take (length s - at) (drop at s)) → leBytes 8 w ≡ take 8 (drop at s)
+word-is s at w within e = e ∙ ap (take 8) (take-all (length s - at) (drop at s) (omega (arith, length-drop at s)))
 
 module _ (secret : Secret) (w0 w1 : ℕ) (address : List ℕ) where
   pub hash-4 : length address ≡ 4 → ((i : ℕ) → Fits w8 (getD address i 0)) → (last r : ℕ)

@@ -54,21 +54,21 @@ pub fn is_address(address: &[u8]) -> bool
     }
 }
 
-// The eight bytes from a place on, as a word, the lowest first.
+// The first eight bytes as a word, the lowest first. Their places are constants, so that they are one load wherever this is used, also
+// where some of them are read again by themselves.
+fn first_word(s: &[u8]) -> u64
+    requires { ⌜ 8 ≤ length (now s) ⌝ }
+    ensures { λ r. ⌜ leBytes 8 r ≡ take 8 (now (s .entry)) ⌝ }
+{
+    octets::le64(s[0], s[1], s[2], s[3], s[4], s[5], s[6], s[7])
+}
+
+// The eight bytes from a place on.
 fn word(s: &[u8], at: usize) -> u64
     requires { ⌜ at + 8 ≤ length (now s) ⌝ }
     ensures { λ r. ⌜ leBytes 8 r ≡ take 8 (drop at (now (s .entry))) ⌝ }
 {
-    octets::le64(
-        s[at],
-        s[at + 1],
-        s[at + 2],
-        s[at + 3],
-        s[at + 4],
-        s[at + 5],
-        s[at + 6],
-        s[at + 7],
-    )
+    first_word(&s[at..])
 }
 
 // The hash of two words of cookies and an address.
