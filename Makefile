@@ -1,13 +1,18 @@
-# run, test: the toolchain is enough. differential also needs python3 and OpenSSL 3, bench needs gcc.
+# run, answer, test: the toolchain is enough. differential also needs python3 and OpenSSL 3, bench needs gcc.
 VECTORS = crates/vectors/stdin
+REQUESTS = crates/answer_requests/stdin
 COUNT = 100000
 SEED = 1
 
-.PHONY: run test build differential bench
+.PHONY: run answer test build differential bench
 
 # Runs the compiled code on vectors, the stored ones or those of a file: make run VECTORS=file
 run: build-vectors
 	@target/bin/vectors <$(VECTORS)
+
+# Answers requests, the stored ones or those of a file: make answer REQUESTS=file
+answer: build-answer_requests
+	@target/bin/answer_requests <$(REQUESTS)
 
 # The gate.
 test:
