@@ -1,4 +1,4 @@
--- The COOKIE body that is found lies within the message. Assumes nothing.
+-- The COOKIE body that is found lies within the message and has a legal length. Assumes nothing.
 use Prim.Native.Nat.{ℕ, zero, suc, _+_, _-_, _≤_}
 use mathlib.Core.Path.{_≡_, refl, sym, ap, subst, _∙_}
 use mathlib.Core.Bool.{true, false}

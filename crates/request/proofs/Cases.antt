@@ -35,7 +35,6 @@ pub table-holds : TableHolds
 table-holds =
     record {
       in-order = λ s. refl;
-      in-disabled = λ s. refl;
       head-rows = λ s. refl;
       too-short = λ s short. simp (lt-ltb (length s) 12 (omega arith));
       long-enough = λ s low high. simp (le-ltb _ _ low, le-ltb _ _ high);

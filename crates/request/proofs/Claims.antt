@@ -5,7 +5,7 @@ use mathlib.Core.Bool.{Bool, true, false, not, cond, _||_, true≢false, false�
 use mathlib.Core.List.{List, [], _∷_, _++_}
 use mathlib.Core.Option.{Option, none, some, Option·getD}
 use native.Mathlib.Omega.{arith}
-use borrow.Author.Tests.{eqb-true, eq-eqb, ne-eqb}
+use borrow.Author.Tests.{eqb-true, eq-eqb, ne-eqb, not-false}
 use lib.Dec.{eqb}
 use lib.ListN.{length, take, drop, length-drop}
 use lib.Seq.{length-take-le}
@@ -54,10 +54,6 @@ first-is-given s =
 
 -- ---- what it means that a check does not apply
 
-not-false : (b : Bool) → not b ≡ false → b ≡ true
-not-false true e = refl
-not-false false e = absurd (true≢false e)
-
 no-any : (rs : List Record) → isAny rs ≡ false → rs ≡ []
 no-any [] e = refl
 no-any (r ∷ rs) e = absurd (true≢false e)
@@ -81,10 +77,10 @@ split (o ∷ os) = pick (isCookie o) refl (firstCookie os) (split os)
     pick false e p is = push p (λ c. true≢false (sym (eq-eqb (o .code) 10 c) ∙ e)) is
 
 -- the first COOKIE option behind others
-first-behind : (before : List EdnsOption) (o : EdnsOption) (after : List EdnsOption) → NoCookies before → o .code ≡ 10 → firstCookie (before ++ o ∷ after) ≡ some o
+cookie-behind : (before : List EdnsOption) (o : EdnsOption) (after : List EdnsOption) → NoCookies before → o .code ≡ 10 → firstCookie (before ++ o ∷ after) ≡ some o
 unfolding firstCookie
-first-behind [] o after others code = rw (eq-eqb (o .code) 10 code)
-first-behind (b ∷ before) o after others code = rw (ne-eqb (b .code) 10 (others .0)) (first-behind before o after (others .1) code)
+cookie-behind [] o after others code = rw (eq-eqb (o .code) 10 code)
+cookie-behind (b ∷ before) o after others code = rw (ne-eqb (b .code) 10 (others .0)) (cookie-behind before o after (others .1) code)
 
 first-none : (os : List EdnsOption) → NoCookies os → firstCookie os ≡ none
 unfolding firstCookie
@@ -196,7 +192,7 @@ module _ (s : List ℕ) where
   when-found : NoneApplies (checks s) → (start end : ℕ) → TheCookie s start end → request s ≡ cookie (qdcount s) start end
   when-found nothing start end c =
       found-options nothing (c .all) (c .opt) (c .the-opt) (c .before ++ c .option ∷ c .after) (c .listed)
-      ∙ rw (first-behind (c .before) (c .option) (c .after) (c .none-before) (c .code), c .starts, c .ends)
+      ∙ rw (cookie-behind (c .before) (c .option) (c .after) (c .none-before) (c .code), c .starts, c .ends)
 
   when-not-found : NoneApplies (checks s) → WithoutCookie s → request s ≡ noCookie (qdcount s)
   unfolding optionsFrom optionsIn firstCookie

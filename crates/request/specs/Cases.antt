@@ -41,7 +41,6 @@ numbers (r ∷ rows) = r .number ∷ numbers rows
 -- the table, for every message; sizes, QR, QDCOUNT and the finder's part, likewise
 pub record TableHolds : Type 0 where
   pub in-order : (s : List ℕ) → numbers (checks s) ≡ 3 ∷ 4 ∷ 5 ∷ 6 ∷ 7 ∷ 8 ∷ 9 ∷ 10 ∷ []
-  pub in-disabled : (s : List ℕ) → numbers (headChecks s) ≡ 3 ∷ 4 ∷ []
   pub head-rows : (s : List ℕ) → headChecks s ≡ 3 when wrongSize s ∷ 4 when isResponse s ∷ []
   pub too-short : (s : List ℕ) → length s ≤ 11 → wrongSize s ≡ true
   pub long-enough : (s : List ℕ) → 12 ≤ length s → length s ≤ 65535 → wrongSize s ≡ false

@@ -27,7 +27,7 @@ use Rattle.cookie.specs.ServerCookie.{CookieMethod, judgement}
 use Rattle.cookie.specs.ServerCookie.Answer.{found}
 use Rattle.server.specs.Server.{Answer, refused, replied, Outcome, _leaving_, checks, respond}
 
--- what answers requests. The claims are over any, so that `OneAnswer` at the end can say that no other than `respond` meets them
+-- what answers requests. The claims are over any, so that `OneAnswer` at the end can say that what meets them answers as `respond` does
 abbrev pub Answerer : Type 0
 Answerer = CookieMethod → Mode → Secrets → ℕ → List ℕ → List ℕ → List ℕ → Outcome
 
@@ -42,7 +42,7 @@ pub record Carries (message body : List ℕ) : Type 0 where
 abbrev pub CarriedIsFound : Type 0
 CarriedIsFound = (message body : List ℕ) → NoneApplies (request.checks message) → Carries message body → body ≡ request.cookieBody message
 
--- bytes 0 to 7 of a fresh server cookie: version, reserved zero, the clock
+-- bytes 0 to 7 of a fresh server cookie: version, reserved zero, the clock. Written out again, so that the claim does not rest on cookie's `freshFront`
 abbrev pub stamp : CookieMethod → ℕ → List ℕ
 stamp m clock = m .version ∷ 0 ∷ 0 ∷ 0 ∷ beBytes 4 clock
 

@@ -123,9 +123,9 @@ fn ignore(message: &[u8]) -> Response
     }
 }
 
-// Answers a request: a message from a client's address, at a second of the clock, for a member of this mode that holds these
-// secrets. Where the reply carries a COOKIE option, its 28 bytes are written to the front of the output; every other byte of the
-// output, and all of them on refusal, stay.
+// Answers a request: a message from a client's address (4 or 16 bytes), at a clock (seconds modulo 2^32), for a member of this mode that
+// holds these secrets, with an output of 28 bytes or more. Where the reply carries a COOKIE option, its 28 bytes are written to the front
+// of the output; every other byte of the output, and all of them on refusal, stay.
 pub fn respond(
     mode: Mode,
     secrets: Secrets,
