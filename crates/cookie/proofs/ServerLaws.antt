@@ -1,6 +1,6 @@
 -- What the proofs of server_cookie cite, one law for each answer. Assumes nothing.
 use mathlib.Core.Path.{_≡_, refl, sym, ap, ap₂, _∙_}
-use mathlib.Core.Bool.{Bool, true, false, not, true≢false, false≢true}
+use mathlib.Core.Bool.{Bool, true, false, not, false≢true}
 use mathlib.Core.List.{List, _++_}
 use Prim.Native.Nat.{ℕ, _+_, _<_}
 use borrow.Author.Tests.{eq-eqb, eqb-true}
@@ -24,6 +24,7 @@ use Rattle.secret.specs.Secrets.{generatingOf}
 use Rattle.siphash.specs.SipHash.{sipHash24, sipHash24Bytes}
 use Rattle.cookie.proofs.BodyLaws.{judge-matching}
 use Rattle.cookie.specs.Match.{matchOf}
+use Rattle.verdict.proofs.ReplyLaws.{when-on}
 use Rattle.verdict.proofs.TimeLaws.{not-true, not-false}
 use Rattle.verdict.specs.Findings.{finding, byTime}
 use Rattle.verdict.specs.ReplyTable.{isDisabled}
@@ -122,9 +123,7 @@ module _ (mode : Mode) (secrets : Secrets) (clock : ℕ) (address body : List �
       refuse-body g = rw (← is-a, not-false a e, ← is-d, f, ← is-b, not-true b g)
 
       judges : (n : Mode) → isDisabled n ≡ false → judgeBody sipHashMethod secrets clock address body ≡ verdict sipHashMethod n secrets clock address body
-      judges Disabled f = absurd (true≢false f)
-      judges Enabled f = refl
-      judges Enforced f = refl
+      judges n f = when-on (λ (k : Mode). judgeBody sipHashMethod secrets clock address body ≡ verdict sipHashMethod k secrets clock address body) refl refl n f
 
       pub judge-found : not b ≡ false → (v : Verdict) → finding v ≡ judgeBody sipHashMethod secrets clock address body
           → found (finding v) ≡ judgement sipHashMethod mode secrets clock address body

@@ -54,22 +54,36 @@ request-inside s = pick (first (checks s)) (foundIn s) (opts-found s (qdcount s)
 
 -- ---- and it has a legal length
 
-abbrev pub AnswerLegal : Answer → Type 0
-AnswerLegal (refused k) = Unit {0}
-AnswerLegal (noCookie q) = Unit {0}
-AnswerLegal (cookie q start end) = isCookieLength (end - start) ≡ true
+-- by its places
+abbrev PlacesLegal : Answer → Type 0
+PlacesLegal (refused k) = Unit {0}
+PlacesLegal (noCookie q) = Unit {0}
+PlacesLegal (cookie q start end) = isCookieLength (end - start) ≡ true
 
-found-legal : (q base : ℕ) (c : Option EdnsOption) → isIllegal c ≡ false → AnswerLegal (found q base c)
+-- as a part of the message
+abbrev pub AnswerLegal : List ℕ → Answer → Type 0
+AnswerLegal s (refused k) = Unit {0}
+AnswerLegal s (noCookie q) = Unit {0}
+AnswerLegal s (cookie q start end) = isCookieLength (length (take (end - start) (drop start s))) ≡ true
+
+part-legal : (s : List ℕ) (a : Answer) → AnswerInside (length s) a → PlacesLegal a → AnswerLegal s a
+part-legal s (refused k) i is = tt
+part-legal s (noCookie q) i is = tt
+part-legal s (cookie q start end) i is =
+    let long : length (take (end - start) (drop start s)) ≡ end - start = length-take-le (end - start) (drop start s) (omega (arith, length-drop start s, i .0, i .1)) in
+    rw long is
+
+found-legal : (q base : ℕ) (c : Option EdnsOption) → isIllegal c ≡ false → PlacesLegal (found q base c)
 found-legal q base none legal = tt
 found-legal q base (some o) legal =
     let long : base + o .end - (base + o .start) ≡ o .end - o .start = omega arith in
     rw long (not-false (isCookieLength (o .end - o .start)) legal)
 
-pub request-legal : (s : List ℕ) → AnswerLegal (request s)
+pub request-legal : (s : List ℕ) → AnswerLegal s (request s)
 unfolding request
-request-legal s = pick (first (checks s)) refl
+request-legal s = part-legal s (request s) (request-inside s) (pick (first (checks s)) refl)
   where
-    pick : (k : ℕ) → first (checks s) ≡ k → AnswerLegal (answered refused k (foundIn s))
+    pick : (k : ℕ) → first (checks s) ≡ k → PlacesLegal (answered refused k (foundIn s))
     pick zero e =
         let from-6 = none-behind _ _ (none-behind _ _ (none-behind _ _ (zero-none (checks s) (numbered s) e))) in
         let from-10 = none-behind _ _ (none-behind _ _ (none-behind _ _ (none-behind _ _ from-6))) in
@@ -103,5 +117,5 @@ module _ (s : List ℕ) (x : Reading) (read : answerOf x ≡ request s) where
     body-within = inside .1
 
     -- check 10 let it through
-    pub body-legal : isCookieLength (c .end - c .start) ≡ true
-    body-legal = subst AnswerLegal (sym read ∙ ap answerOf k) (request-legal s)
+    pub body-legal : isCookieLength (length (take (c .end - c .start) (drop (c .start) s))) ≡ true
+    body-legal = subst (AnswerLegal s) (sym read ∙ ap answerOf k) (request-legal s)

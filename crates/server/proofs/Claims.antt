@@ -1,44 +1,44 @@
 -- The claims of specs/Claims.antt. Assumes nothing.
 use Prim.Native.Nat.{ℕ, zero, suc, _-_, _≤_}
 use mathlib.Core.Path.{_≡_, refl, sym, ap, subst, _∙_}
-use mathlib.Core.Bool.{Bool, true, false, not, true≢false, false≢true}
-use mathlib.Core.List.{List, [], _∷_, _++_}
-use mathlib.Core.Option.{Option, none, some, Option·getD}
+use mathlib.Core.Bool.{Bool, true, false, false≢true}
+use mathlib.Core.List.{List, [], _++_}
+use mathlib.Core.Option.{none, some, Option·getD}
 use native.Mathlib.Omega.{arith}
 use borrow.Author.Tests.{le-ltb, ltb-false, not-false, eq-eqb}
 use lib.IntN.{ℤ}
-use lib.ListN.{length, take, drop, length-drop}
+use lib.ListN.{length, take, drop}
 use lib.Seq.{length-take-le}
-use Rattle.octets.specs.Refusals.{Row, first, answered, FirstIs, NoneApplies}
+use Rattle.octets.specs.Refusals.{Row, first, answered, NoneApplies}
 use Rattle.octets.proofs.RefusalLaws.{Numbered, is-first, first-is, none-is, is-none, zero-none, this-not, none-behind}
-use Rattle.edns.specs.Options.{isCookieLength}
 use Rattle.message.specs.Message.{qdcount}
 use Rattle.request.proofs.BodyLaws.{AnswerLegal, request-legal}
 use Rattle.request.proofs.Claims.{first-is-given, first-is-found}
-use Rattle.request.specs.Claims.{TheCookie, WithoutCookie}
+use Rattle.request.specs.Claims.{WithoutCookie}
 use Rattle.request.specs.Request as request
 use Rattle.secret.specs.declared.Secrets.{Secrets}
 use Rattle.secret.specs.Secrets.{generatingOf}
 use Rattle.verdict.specs.Findings.{Finding}
 use Rattle.verdict.specs.Findings.Finding.{ignored, absent, good}
 use Rattle.verdict.specs.ReplyTable.{isDisabled, Owed, Sent, _carrying_, keptOrFresh, replyOwed}
-use Rattle.verdict.specs.ReplyTable.Sent.{serve, truncate}
+use Rattle.verdict.specs.ReplyTable.Sent.{serve}
 use Rattle.verdict.specs.declared.Carried.{Carried}
 use Rattle.verdict.specs.declared.Carried.the-variants.{Nothing, Fresh, Kept}
 use Rattle.verdict.specs.declared.Mode.{Mode}
 use Rattle.verdict.specs.declared.Mode.the-variants.{Disabled, Enabled, Enforced}
 use Rattle.verdict.specs.declared.Which.{Which}
+use Rattle.verdict.proofs.ReplyLaws.{when-on}
 use Rattle.cookie.proofs.Good.{address-true, true-address, good-exactly-when}
 use Rattle.cookie.proofs.Fresh.{written-whole}
-use Rattle.cookie.specs.Claims.{AnAddress, IsGood, EightBytes, Holding}
+use Rattle.cookie.specs.Claims.{IsGood, EightBytes, Holding}
 use Rattle.cookie.specs.CookieOption.{freshOption, freshRefusal, keptOption, keptRefusal, outputAfter}
 use Rattle.cookie.specs.ServerCookie.{CookieMethod, judgeBody, judgement, isAddress, isBody}
 use Rattle.cookie.specs.ServerCookie.Answer.{found}
-use Rattle.server.proofs.ReplyLaws.{judgement-is, client-there, kept-24}
+use Rattle.server.proofs.ReplyLaws.{judgement-is, client-there, absent-none, kept-24}
 use Rattle.server.proofs.RespondLaws.{onReading, read-is, ignoring-is}
-use Rattle.server.specs.Claims.{RefusedByFirst, TheFirstRefuses, Carries, CarriedIsFound, GoodWhen, GoodExactlyWhen, Replies, EveryReply, freshFor, Written, TheOptionIsWritten}
+use Rattle.server.specs.Claims.{TheFirstRefuses, Carries, CarriedIsFound, GoodExactlyWhen, EveryReply, freshFor, TheOptionIsWritten}
 use Rattle.server.specs.Server.{Answer, refused, replied, Outcome, _leaving_, checks, unlessDisabled, cookieIn, verdictOn, refusing, replying, respond}
-use Rattle.server.specs.Steps.{withOption, onCookie, ignoring}
+use Rattle.server.specs.Steps.{withOption, onCookie}
 
 -- ---- modes
 
@@ -120,15 +120,9 @@ the-first-refuses m mode secrets clock address message output =
 
 -- ---- a request outside mode Disabled
 
-legal-24 : (body : List ℕ) → length body ≡ 24 → isBody body ≡ true
-unfolding isCookieLength
-legal-24 body long = rw long
-
 -- a good cookie is served in both modes
 good-served : (mode : Mode) → isDisabled mode ≡ false → (q : ℕ) (a : ℤ) (w : Which) (body : List ℕ) → replyOwed mode q (good a w) body ≡ (serve carrying keptOrFresh a w body)
-good-served Disabled on q a w body = absurd (true≢false on)
-good-served Enabled on q a w body = refl
-good-served Enforced on q a w body = refl
+good-served mode on q a w body = when-on (λ (n : Mode). replyOwed n q (good a w) body ≡ (serve carrying keptOrFresh a w body)) refl refl mode on
 
 module _ (m : CookieMethod) (mode : Mode) (secrets : Secrets) (clock : ℕ) (address message output : List ℕ) (on : isDisabled mode ≡ false) where
   abbrev Gives : Outcome → Type 0
@@ -143,12 +137,9 @@ module _ (m : CookieMethod) (mode : Mode) (secrets : Secrets) (clock : ℕ) (add
     from = not-false (isAddress address) (this-not _ _ (none-behind _ _ nothing))
 
     pub passed : NoneApplies (request.checks message)
-    passed = by mode on (none-behind _ _ (none-behind _ _ nothing))
-      where
-        by : (n : Mode) → isDisabled n ≡ false → NoneApplies (request.headChecks message ++ unlessDisabled n (request.restChecks message)) → NoneApplies (request.checks message)
-        by Disabled e is = absurd (true≢false e)
-        by Enabled e is = is
-        by Enforced e is = is
+    passed =
+        when-on (λ (n : Mode). NoneApplies (request.headChecks message ++ unlessDisabled n (request.restChecks message)) → NoneApplies (request.checks message))
+        (λ is. is) (λ is. is) mode on (none-behind _ _ (none-behind _ _ nothing))
 
   module _ (room′ : 28 ≤ length output) (from′ : isAddress address ≡ true) where
     read-gives : (x : request.Answer) → request.request message ≡ x → Gives (onReading m mode secrets clock address message output x)
@@ -166,15 +157,8 @@ module _ (m : CookieMethod) (mode : Mode) (secrets : Secrets) (clock : ℕ) (add
           read-gives (request.cookie (qdcount message) (carries .start) (carries .end)) read-cookie
           ∙ ap (λ (b : List ℕ). onCookie m mode secrets clock address (qdcount message) output (some b)) (sym (carries .the-body))
 
-      body-long : length body ≡ carries .end - carries .start
-      body-long =
-          let ordered = carries .the-cookie .ordered in
-          let within = carries .the-cookie .in-data in
-          let inside = carries .the-cookie .the-opt .inside in
-          ap length (carries .the-body) ∙ length-take-le (carries .end - carries .start) (drop (carries .start) message) (omega (arith, length-drop (carries .start) message))
-
       legal : isBody body ≡ true
-      legal = rw body-long (subst AnswerLegal read-cookie (request-legal message))
+      legal = rw (carries .the-body) (subst (AnswerLegal message) read-cookie (request-legal message))
 
 pub carried-is-found : CarriedIsFound
 carried-is-found message body nothing carries =
@@ -284,16 +268,11 @@ every-reply m secrets clock address message output space is =
 
 -- ---- the bytes of the option
 
--- a reply that ignores the cookie, or has none, carries no option
+-- a reply that ignores the cookie carries no option
 ignored-none : (mode : Mode) → isDisabled mode ≡ true → (q : ℕ) (v : Finding) (body : List ℕ) → replyOwed mode q v body .option ≡ Nothing
 ignored-none Disabled e q v body = refl
 ignored-none Enabled e q v body = absurd (false≢true e)
 ignored-none Enforced e q v body = absurd (false≢true e)
-
-absent-none : (mode : Mode) (q : ℕ) (body : List ℕ) → replyOwed mode q absent body .option ≡ Nothing
-absent-none Disabled q body = refl
-absent-none Enabled q body = refl
-absent-none Enforced q body = refl
 
 isWritten : Carried → Bool
 isWritten Nothing = false

@@ -1,7 +1,7 @@
 -- The claim `OneAnswer` of specs/Claims.antt. Assumes nothing.
 use Prim.Native.Nat.{ℕ, _≤_}
 use mathlib.Core.Path.{_≡_, refl, sym, ap, ap₂, subst, _∙_}
-use mathlib.Core.Bool.{Bool, true, false, true≢false, false≢true}
+use mathlib.Core.Bool.{true, false, true≢false, false≢true}
 use mathlib.Core.List.{List, _++_}
 use borrow.Author.Tests.{ltb-false, not-false}
 use lib.ListN.{length, take, drop, take-append-drop}

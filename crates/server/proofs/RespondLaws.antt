@@ -1,37 +1,36 @@
 -- The checks of a request in the order in which the code comes to them, one law for each answer. Assumes nothing.
 use Prim.Native.Nat.{ℕ, zero, suc, _-_, _≤_, _<_}
-use mathlib.Core.Path.{_≡_, refl, sym, ap, subst, _∙_}
-use mathlib.Core.Bool.{Bool, true, false, not, true≢false, false≢true}
-use mathlib.Core.List.{List, [], _∷_}
+use mathlib.Core.Path.{_≡_, refl, sym, ap, _∙_}
+use mathlib.Core.Bool.{Bool, true, false, not, false≢true}
+use mathlib.Core.List.{List, []}
 use mathlib.Core.Option.{Option, none, some, Option·getD}
-use native.Mathlib.Omega.{arith}
-use borrow.Author.Tests.{lt-ltb, le-ltb, not-true, not-false}
-use lib.ListN.{length, take, drop, length-drop}
-use lib.Seq.{length-take-le}
+use borrow.Author.Tests.{lt-ltb, le-ltb, not-true}
+use lib.ListN.{length, take, drop}
 use Rattle.octets.specs.Refusals.{Row, first, answered}
-use Rattle.edns.specs.Options.{isCookieLength}
 use Rattle.edns.specs.declared.Cookie.{Cookie}
 use Rattle.edns.specs.declared.EdnsOption.{EdnsOption}
 use Rattle.message.specs.Message.{qdcount}
-use Rattle.request.proofs.BodyLaws.{body-ordered, body-within, body-legal}
 use Rattle.request.proofs.RestLaws.{positive}
 use Rattle.request.specs.Answers as request-answers
 use Rattle.request.specs.Answers.{headNumber}
 use Rattle.request.specs.Request as request
-use Rattle.request.specs.Request.{optsIn, cookieOf, headChecks, startOf, found, foundIn}
+use Rattle.request.specs.Request.{optsIn, cookieOf, headChecks, startOf, found}
 use Rattle.request.specs.declared.Head.{Head}
 use Rattle.request.specs.declared.Head.the-variants as head-as
 use Rattle.request.specs.declared.Reading.{Reading}
 use Rattle.request.specs.declared.Reading.the-variants as reading-as
 use Rattle.request.specs.declared.Refusal as request-refusal
 use Rattle.secret.specs.declared.Secrets.{Secrets}
+use Rattle.verdict.proofs.ReplyLaws.{when-on}
 use Rattle.verdict.specs.Findings.Finding.{ignored, absent}
 use Rattle.verdict.specs.ReplyTable.{isDisabled, _carrying_, replyOwed}
 use Rattle.verdict.specs.ReplyTable.Sent.{serve}
 use Rattle.verdict.specs.declared.Carried.the-variants.{Nothing}
 use Rattle.verdict.specs.declared.Mode.{Mode}
 use Rattle.verdict.specs.declared.Mode.the-variants.{Disabled, Enabled, Enforced}
-use Rattle.cookie.specs.ServerCookie.{CookieMethod, sipHashMethod, isAddress, isBody}
+use Rattle.cookie.proofs.ServerLaws.{is-address}
+use Rattle.cookie.specs.ServerCookie.{CookieMethod, sipHashMethod, isAddress}
+use Rattle.server.proofs.ReplyLaws.{absent-none}
 use Rattle.server.specs.Answers.{answerOf}
 use Rattle.server.specs.Server.{Answer, refused, replied, Outcome, _leaving_, checks, unlessDisabled, bodyIn, judged, verdictOn, refusing, replying, respond}
 use Rattle.server.specs.Steps.{onCookie, ignoring}
@@ -75,15 +74,11 @@ module _ (m : CookieMethod) (mode : Mode) (secrets : Secrets) (clock : ℕ) (add
   onReading (request.cookie q start end) = onCookie m mode secrets clock address q output (some (take (end - start) (drop start message)))
 
   module _ (on : isDisabled mode ≡ false) where
-    judged-in : (n : Mode) → isDisabled n ≡ false → (c : Option (List ℕ)) → verdictOn m n secrets clock address c ≡ judged m secrets clock address c
-    judged-in Disabled e c = absurd (true≢false e)
-    judged-in Enabled e c = refl
-    judged-in Enforced e c = refl
+    judged-in : (c : Option (List ℕ)) → verdictOn m mode secrets clock address c ≡ judged m secrets clock address c
+    judged-in c = when-on (λ (n : Mode). verdictOn m n secrets clock address c ≡ judged m secrets clock address c) refl refl mode on
 
-    all-checks : (n : Mode) → isDisabled n ≡ false → (rows : List Row) → unlessDisabled n rows ≡ rows
-    all-checks Disabled e rows = absurd (true≢false e)
-    all-checks Enabled e rows = refl
-    all-checks Enforced e rows = refl
+    all-checks : (rows : List Row) → unlessDisabled mode rows ≡ rows
+    all-checks rows = when-on (λ (n : Mode). unlessDisabled n rows ≡ rows) refl refl mode on
 
     by-reading : (n q start : ℕ) (c : Option EdnsOption)
         → answered (refusing output) n
@@ -98,15 +93,13 @@ module _ (m : CookieMethod) (mode : Mode) (secrets : Secrets) (clock : ℕ) (add
     unfolding respond request.request
     read-is room from =
         sym
-        (rw (le-ltb (length output) 28 room, from, all-checks mode on, judged-in mode on)
+        (rw (le-ltb (length output) 28 room, from, all-checks, judged-in)
         (by-reading (first (request.checks message)) (qdcount message) (startOf (optsIn message)) (cookieOf message)))
 
 -- no option without a COOKIE option
 absent-stays : (m : CookieMethod) (mode : Mode) (secrets : Secrets) (clock : ℕ) (address : List ℕ) (q : ℕ) (output : List ℕ)
     → (replied absent (replyOwed mode q absent []) leaving output) ≡ onCookie m mode secrets clock address q output none
-absent-stays m Disabled secrets clock address q output = refl
-absent-stays m Enabled secrets clock address q output = refl
-absent-stays m Enforced secrets clock address q output = refl
+absent-stays m mode secrets clock address q output = rw (absent-none mode q [])
 
 -- ---- the answers
 
@@ -127,16 +120,13 @@ module _ (mode : Mode) (secrets : Secrets) (clock : ℕ) (address message output
     refuse-2 e = rw (le-ltb (length output) 28 room, ← is-a, not-true a e)
 
     module _ (from : not a ≡ false) where
-      pub address-is : isAddress address ≡ true
-      address-is = sym is-a ∙ not-false a from
-
       module _ (d : Bool) (is-d : d ≡ isDisabled mode) where
         pub ignored-is : d ≡ true → (r : Response) → answerOf r ≡ ignoring message → Is r output
-        ignored-is e r told = told-is told ∙ ignoring-is sipHashMethod secrets clock address message output room address-is mode (sym is-d ∙ e)
+        ignored-is e r told = told-is told ∙ ignoring-is sipHashMethod secrets clock address message output room (is-address address a is-a from) mode (sym is-d ∙ e)
 
         module _ (e : d ≡ false) (x : Reading) (read : request-answers.answerOf x ≡ request.request message) where
           by : (y : Reading) → x ≡ y → onReading sipHashMethod mode secrets clock address message output (request-answers.answerOf y) ≡ respond sipHashMethod mode secrets clock address message output
-          by y k = ap (onReading sipHashMethod mode secrets clock address message output) (sym (ap request-answers.answerOf k) ∙ read) ∙ read-is sipHashMethod mode secrets clock address message output (not-disabled mode d is-d e) room address-is
+          by y k = ap (onReading sipHashMethod mode secrets clock address message output) (sym (ap request-answers.answerOf k) ∙ read) ∙ read-is sipHashMethod mode secrets clock address message output (not-disabled mode d is-d e) room (is-address address a is-a from)
 
           pub refused-is : (f : request-refusal.Refusal) → x ≡ reading-as.Refused f → Is (response-as.Refused (Request f)) output
           refused-is f k = by (reading-as.Refused f) k
@@ -149,13 +139,3 @@ module _ (mode : Mode) (secrets : Secrets) (clock : ℕ) (address message output
                 → answerOf r leaving after ≡ onCookie sipHashMethod mode secrets clock address q output (some (take (c .end - c .start) (drop (c .start) message)))
                 → Is r after
             cookie-is r after told = told ∙ by (reading-as.CookieAt q c) k
-
--- the body that is judged has a legal length
-module _ (message : List ℕ) (x : Reading) (read : request-answers.answerOf x ≡ request.request message) (q : ℕ) (c : Cookie) (k : x ≡ reading-as.CookieAt q c) where
-  pub legal-body : isBody (take (c .end - c .start) (drop (c .start) message)) ≡ true
-  legal-body =
-      let ordered = body-ordered message x read q c k in
-      let within = body-within message x read q c k in
-      let long : length (take (c .end - c .start) (drop (c .start) message)) ≡ c .end - c .start =
-      length-take-le (c .end - c .start) (drop (c .start) message) (omega (arith, length-drop (c .start) message)) in
-      rw long (body-legal message x read q c k)

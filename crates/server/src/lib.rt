@@ -32,7 +32,9 @@ pub enum ErrorReply {
     BadVers,
 }
 
+// What comes of a request.
 pub enum Response {
+    // The output is as it was.
     Refused(Refusal),
     // The verdict, what the reply is, and which COOKIE option it carries: that of 28 bytes which the output now starts with, or none.
     Reply { verdict: Verdict, reply: Reply },

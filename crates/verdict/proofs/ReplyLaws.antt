@@ -1,6 +1,6 @@
 -- What the proofs of reply_table cite, one law for each answer. Assumes nothing.
 use mathlib.Core.Path.{_≡_, refl, sym, ap, _∙_}
-use mathlib.Core.Bool.{Bool, true, false, not, cond, _&&_}
+use mathlib.Core.Bool.{Bool, true, false, not, cond, _&&_, true≢false}
 use mathlib.Core.List.{List, [], _∷_}
 use Prim.Native.Nat.{ℕ, _<_}
 use native.Mathlib.Omega.{arith}
@@ -14,14 +14,22 @@ use Rattle.octets.specs.Runs.{sameRun}
 use Rattle.octets.proofs.RunLaws.{same-lengths}
 use Rattle.verdict.proofs.TimeLaws.{le-not, not-true, not-false}
 use Rattle.verdict.specs.Findings.{finding}
-use Rattle.verdict.specs.ReplyTable.{reservedZero, isYoung, keptOrFresh, owedOf, enabledReply, enforcedReply}
+use Rattle.verdict.specs.ReplyTable.{isDisabled, reservedZero, isYoung, keptOrFresh, owedOf, enabledReply, enforcedReply}
 use Rattle.verdict.specs.declared.Action.the-variants.{Serve}
 use Rattle.verdict.specs.declared.Carried.{Carried}
 use Rattle.verdict.specs.declared.Carried.the-variants.{Fresh, Kept}
+use Rattle.verdict.specs.declared.Mode.{Mode}
+use Rattle.verdict.specs.declared.Mode.the-variants.{Disabled, Enabled, Enforced}
 use Rattle.verdict.specs.declared.Verdict.{Verdict}
 use Rattle.verdict.specs.declared.Verdict.the-variants.{Good}
 use Rattle.verdict.specs.declared.Which.{Which}
 use Rattle.verdict.specs.declared.Which.the-variants.{Generating}
+
+-- what holds in Enabled and in Enforced holds wherever cookies are judged
+pub when-on : (P : Mode → Type 0) → P Enabled → P Enforced → (mode : Mode) → isDisabled mode ≡ false → P mode
+when-on P enabled enforced Disabled on = absurd (true≢false on)
+when-on P enabled enforced Enabled on = enabled
+when-on P enabled enforced Enforced on = enforced
 
 pub and-false : (x : Bool) → (x && false) ≡ false
 and-false true = refl

@@ -1,7 +1,8 @@
 -- `server::responses::respond` meets its contract. The checks in their order, and then what the reader found. Assumes nothing.
 use borrow.Author.Needs.{needs}
-use Rattle.request.proofs.BodyLaws.{body-ordered, body-within}
-use Rattle.server.proofs.RespondLaws.{refuse-1, refuse-2, ignored-is, refused-is, absent-is, cookie-is, not-disabled, address-is, legal-body}
+use Rattle.request.proofs.BodyLaws.{body-ordered, body-within, body-legal}
+use Rattle.cookie.proofs.ServerLaws.{is-address}
+use Rattle.server.proofs.RespondLaws.{refuse-1, refuse-2, ignored-is, refused-is, absent-is, cookie-is, not-disabled}
 use Rattle.server.proofs.responses.respond.Statement.{statement}
 use Rattle.server.proofs.responses.respond.Tie as tie
 
@@ -24,7 +25,7 @@ part-with-cookie-end : tie.Need-part-with-cookie-end
 part-with-cookie-end c = search (needs, body-within)
 
 with-cookie-requires : tie.Need-with-cookie-requires
-with-cookie-requires c κs = (search (needs, not-disabled), search needs, search (needs, address-is), search (needs, legal-body))
+with-cookie-requires c κs = (search (needs, not-disabled), search needs, search (needs, is-address), search (needs, body-legal))
 
 returns-4 : tie.Need-returns-4
 returns-4 c = search (needs, refused-is)
