@@ -53,3 +53,30 @@ le-again (b ∷ bs) bytes =
     let low : (b + 256 * leNumber bs) % 256 ≡ b = omega arith in
     let high : (b + 256 * leNumber bs) / 256 ≡ leNumber bs = omega arith in
     rw (low, high) (ap (λ (rest : List ℕ). b ∷ rest) (le-again bs (λ i. bytes (suc i))))
+
+-- ---- eight bytes, the highest first, out of a word that has the lowest first
+
+-- four and four
+pub turned-is : (word high low : ℕ) (b : List ℕ) → b ≡ leBytes 8 word
+    → high ≡ beNumber (getD b 0 0 ∷ getD b 1 0 ∷ getD b 2 0 ∷ getD b 3 0 ∷ []) → low ≡ beNumber (getD b 4 0 ∷ getD b 5 0 ∷ getD b 6 0 ∷ getD b 7 0 ∷ [])
+    → high * 4294967296 + low ≡ beNumber (leBytes 8 word)
+unfolding beNumber leBytes
+turned-is word high low b e h l = rw (h, l, e) (omega arith)
+
+module _ (b0 b1 b2 b3 b4 b5 b6 b7 : ℕ) (f0 : b0 < 256) (f1 : b1 < 256) (f2 : b2 < 256) (f3 : b3 < 256) (f4 : b4 < 256) (f5 : b5 < 256) (f6 : b6 < 256) (f7 : b7 < 256) where
+  abbrev bytes : List ℕ
+  bytes = b0 ∷ b1 ∷ b2 ∷ b3 ∷ b4 ∷ b5 ∷ b6 ∷ b7 ∷ []
+
+  small : (i : ℕ) → getD bytes i 0 < 256
+  small zero = f0
+  small (suc zero) = f1
+  small (suc (suc zero)) = f2
+  small (suc (suc (suc zero))) = f3
+  small (suc (suc (suc (suc zero)))) = f4
+  small (suc (suc (suc (suc (suc zero))))) = f5
+  small (suc (suc (suc (suc (suc (suc zero)))))) = f6
+  small (suc (suc (suc (suc (suc (suc (suc zero))))))) = f7
+  small (suc (suc (suc (suc (suc (suc (suc (suc i)))))))) = omega arith
+
+  pub be64-is : (word r : ℕ) → word ≡ leNumber bytes → r ≡ beNumber (leBytes 8 word) → r ≡ beNumber bytes
+  be64-is word r w e = e ∙ ap (λ (x : ℕ). beNumber (leBytes 8 x)) w ∙ ap beNumber (le-again bytes small)

@@ -62,13 +62,22 @@ pub fn be32(b0: u8, b1: u8, b2: u8, b3: u8) -> u32
     ((b0 as u32 * 256 + b1 as u32) * 256 + b2 as u32) * 256 + b3 as u32
 }
 
-// The number of eight bytes, the highest first.
+// A word with its bytes turned round.
+fn turned(word: u64) -> u64
+    ensures { λ r. ⌜ r ≡ beNumber (leBytes 8 word) ⌝ }
+{
+    let b = le64_bytes(word);
+    let high = be32(b[0], b[1], b[2], b[3]);
+    let low = be32(b[4], b[5], b[6], b[7]);
+    high as u64 * 0x100000000 + low as u64
+}
+
+// The number of eight bytes, the highest first. They are put together the lowest first and turned round, which stays one load and a
+// swap: a sum with the highest first is taken apart again where it is compared with another number.
 pub fn be64(b0: u8, b1: u8, b2: u8, b3: u8, b4: u8, b5: u8, b6: u8, b7: u8) -> u64
     ensures { λ r. ⌜ r ≡ beNumber (b0 ∷ b1 ∷ b2 ∷ b3 ∷ b4 ∷ b5 ∷ b6 ∷ b7 ∷ []) ⌝ }
 {
-    let high = be32(b0, b1, b2, b3);
-    let low = be32(b4, b5, b6, b7);
-    high as u64 * 0x100000000 + low as u64
+    turned(le64(b0, b1, b2, b3, b4, b5, b6, b7))
 }
 
 // The four bytes of a number, the highest first.
