@@ -1,0 +1,5 @@
+pub mod Answers
+pub mod BelowLaws
+pub mod Cases
+pub mod SetLaws
+pub mod StageLaws
