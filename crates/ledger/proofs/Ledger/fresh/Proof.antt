@@ -1,0 +1,11 @@
+-- `ledger::Ledger::fresh` meets its contract. Assumes nothing.
+use borrow.Author.Needs.{needs}
+use Rattle.ledger.proofs.MoveLaws.{fresh-is}
+use Rattle.ledger.proofs.Ledger.fresh.Statement.{statement}
+use Rattle.ledger.proofs.Ledger.fresh.Tie as tie
+
+returns : tie.Need-returns
+returns c = search (needs, fresh-is)
+
+pub fresh-spec : {M : Type 1} → statement M
+fresh-spec = tie.close (tie.spec (λ c κs. search needs) (λ c κs. search needs) (λ c κs. search needs) returns)

@@ -1,0 +1,16 @@
+pub mod Along
+pub mod Cases
+pub mod EachKind
+pub mod Facts
+pub mod Holding
+pub mod Machine
+pub mod Move
+pub mod MoveLaws
+pub mod OneAnswer
+pub mod People
+pub mod Rows
+pub mod RuleLaws
+pub mod Sound
+pub mod TheTable
+pub mod ThreeEach
+pub mod Totals

@@ -1,0 +1,9 @@
+pub mod Account
+pub mod Answers
+pub mod Cases
+pub mod Claims
+pub mod Journal
+pub mod Ledger
+pub mod OneAnswer
+pub mod Rules
+pub mod Run
