@@ -1,0 +1,5 @@
+pub mod Cases
+pub mod DigitLaws
+pub mod NumberLaws
+pub mod RowLaws
+pub mod StoreLaws
