@@ -1,0 +1,148 @@
+-- The text of a block has room, and what stands in the output is the text. Assumes nothing.
+use Prim.Native.Nat.{ℕ, zero, suc, _+_, _*_, _%_, _≤_, _<_}
+use mathlib.Core.Path.{_≡_, refl, sym, ap, ap₂, _∙_}
+use mathlib.Core.Bool.{Bool, true, false, cond}
+use mathlib.Core.List.{List, [], _∷_, _++_, append-nil}
+use native.Mathlib.Omega.{arith}
+use native.Mathlib.Nat.{min-eq-left, mod-lt}
+use borrow.Author.Tests.{ne-eqb}
+use lib.ListN.{length, getD, take, drop, length-append}
+use lib.Seq.{getD-take, getD-drop, length-take-le}
+use Rattle.octets.specs.Refusals.{Row, first}
+use Rattle.octets.specs.Runs.{written}
+use Rattle.octets.proofs.RunLaws.{length-written, written-next}
+use Rattle.stages.specs.Stages.{isPresent, stageOf}
+use Rattle.ledger.specs.declared.Step.{Step}
+use Rattle.ledger.specs.Journal.{readStep}
+use Rattle.ledger.specs.Ledger.{viewOf}
+use Rattle.ledger.specs.Rules.{View, refusals, refusal}
+use Rattle.ledger.specs.Run.{offered}
+use Rattle.ledger.proofs.Along.{answer-is}
+use Rattle.rows.specs.Rows.{rowLine, shortLine, longest, _leaving_, placed, Placed}
+use Rattle.rows.proofs.RowLaws.{row-fits, short-fits, placed-room}
+use Rattle.listing.specs.declared.Lister.{Lister}
+use Rattle.listing.specs.declared.Listed.{Listed}
+use Rattle.listing.specs.Answers.{blockOf}
+use Rattle.listing.specs.Listing.{size, rowOf, listerAfter, linesOf, listerPast, tailLine, room, Block, listed}
+use Rattle.listing.proofs.ListLaws.{count-fits}
+use Rattle.list_input.specs.Text.{records, textOf, Roomy, PutOf}
+
+-- ---- no line is longer than the longest
+
+abbrev Low : List Row → Type 0
+Low [] = Unit {0}
+Low (r ∷ rows) = (r .number < 256) × Low rows
+
+first-low : (rows : List Row) → Low rows → first rows < 256
+first-low [] low = omega arith
+first-low (r ∷ rows) low = go (first-low rows (low .1)) (r .applies)
+  where
+    go : first rows < 256 → (b : Bool) → cond b (r .number) (first rows) < 256
+    go later true = low .0
+    go later false = later
+
+answer-low : (v : View) (s : Step) → refusal v s < 256
+unfolding refusal
+answer-low v s =
+    first-low (refusals v s)
+    (omega arith, (omega arith, (omega arith, (omega arith, (omega arith, (omega arith, (omega arith, (omega arith, (omega arith, (omega arith, tt))))))))))
+
+abbrev Bytes : List ℕ → Type 0
+Bytes bytes = (i : ℕ) → getD bytes i 0 < 256
+
+line-fits : (at : Lister) (bytes : List ℕ) → Bytes bytes → length (rowLine (rowOf at (take size bytes))) ≤ longest
+unfolding rowOf
+line-fits at bytes known =
+    let first = take size bytes in
+    let after = offered (at .ledger) first .ledger .stages in
+    row-fits (rowOf at first) (mod-lt (at .number + 1) (omega arith)) (omega (arith, known 0, getD-take size bytes 0 0 (omega arith)))
+    (omega (arith, answer-is (at .ledger) first, answer-low (viewOf (at .ledger)) (readStep first)))
+    (count-fits _ (isPresent after) (stageOf after) 0 refl) (count-fits _ (isPresent after) (stageOf after) 1 refl)
+    (count-fits _ (isPresent after) (stageOf after) 2 refl) (count-fits _ (isPresent after) (stageOf after) 3 refl)
+
+lines-fit : (n : ℕ) (at : Lister) (bytes : List ℕ) → Bytes bytes → length (linesOf n at bytes) ≤ n * longest
+unfolding linesOf
+lines-fit zero at bytes known = omega arith
+lines-fit (suc n) at bytes known =
+    let next = listerAfter at (take size bytes) in
+    let rest = lines-fit n next (drop size bytes) (λ i. omega (arith, known (size + i), getD-drop size bytes i 0)) in
+    omega (arith, length-append (rowLine (rowOf at (take size bytes))) (linesOf n next (drop size bytes)), line-fits at bytes known)
+
+-- ---- what stands in the output
+
+-- there is room for every record
+whole : (bytes output : List ℕ) → Roomy bytes output → room bytes output ≡ records bytes
+whole bytes output roomy = min-eq-left (omega arith)
+
+module _ (at : Lister) (bytes before : List ℕ) (roomy : Roomy bytes before) (known : Bytes bytes) where
+  -- the lines of every record, where they end, and the lister after them
+  record Lines (r : Listed) (output : List ℕ) : Type 0 where
+    pub past : r .lister ≡ listerPast (records bytes) at bytes
+    pub holds : output ≡ written before 0 (linesOf (records bytes) at bytes)
+    pub ends : r .end ≡ length (linesOf (records bytes) at bytes)
+    pub within : r .end + longest ≤ length before
+
+  lines-stand : (r : Listed) (output : List ℕ) → blockOf r output ≡ listed at bytes before → Lines r output
+  unfolding listed
+  lines-stand r output e =
+      let n = whole bytes before roomy in
+      let ends : r .end ≡ length (linesOf (records bytes) at bytes) = ap (λ (x : Block). x .end) e ∙ ap (λ (k : ℕ). length (linesOf k at bytes)) n in
+      record {
+        past = ap (λ (x : Block). x .lister) e ∙ ap (λ (k : ℕ). listerPast k at bytes) n;
+        holds = ap (λ (x : Block). x .output) e ∙ ap (λ (k : ℕ). written before 0 (linesOf k at bytes)) n;
+        ends = ends;
+        within = omega (arith, ends, lines-fit (records bytes) at bytes known);
+      }
+
+  -- nothing is left over
+  pub put-lines : (r : Listed) (output : List ℕ) (last : Bool) (left : ℕ) → blockOf r output ≡ listed at bytes before
+      → (left ≡ cond last (length bytes % size) 0) × (left < size) → left ≡ 0
+      → PutOf at bytes last before (r .lister) (r .end) output
+  unfolding textOf
+  put-lines r output last left e l none =
+      let stand = lines-stand r output e in
+      let lines = linesOf (records bytes) at bytes in
+      let text : lines ≡ textOf at bytes last = sym (append-nil lines) ∙ ap (λ (k : ℕ). lines ++ tailLine k) (sym none ∙ l .0) in
+      let long : length output ≡ length before = ap length (stand .holds) ∙ length-written before 0 lines in
+      record {
+        lister = stand .past;
+        holds = stand .holds ∙ ap (λ (x : List ℕ). written before 0 x) text;
+        ends = stand .ends ∙ ap length text;
+        within = omega (arith, stand .within);
+      }
+
+  -- the line of what is left over, behind the others
+  pub put-tail : (r : Listed) (output now : List ℕ) (last : Bool) (left end : ℕ) → blockOf r output ≡ listed at bytes before
+      → (left ≡ cond last (length bytes % size) 0) × (left < size) → (left ≡ 0 → ⊥)
+      → end leaving now ≡ placed output (r .end) (shortLine left)
+      → PutOf at bytes last before (r .lister) end now
+  unfolding textOf
+  put-tail r output now last left end e l some p =
+      let stand = lines-stand r output e in
+      let lines = linesOf (records bytes) at bytes in
+      let line = shortLine left in
+      let long : length output ≡ length before = ap length (stand .holds) ∙ length-written before 0 lines in
+      let there = p ∙ placed-room output (r .end) line (omega (arith, stand .within)) in
+      let short : length line ≤ longest = short-fits left (omega (arith, l .1)) in
+      let text : lines ++ line ≡ textOf at bytes last = ap (λ (x : List ℕ). lines ++ x) (rw (ne-eqb left 0 some)) ∙ ap (λ (k : ℕ). lines ++ tailLine k) (l .0) in
+      let ends : end ≡ r .end + length line = ap (λ (x : Placed). x .end) there in
+      let start : r .end ≡ 0 + length lines = omega (arith, stand .ends) in
+      record {
+        lister = stand .past;
+        holds =
+            ap (λ (x : Placed). x .buffer) there
+            ∙ ap₂ (λ (x : List ℕ) (k : ℕ). written x k line) (stand .holds) start
+            ∙ written-next before 0 lines line (omega (arith, stand .within, short))
+            ∙ ap (λ (x : List ℕ). written before 0 x) text;
+        ends = omega (arith, length-append lines line, ap length text);
+        within = omega (arith, stand .within, short, ap length (ap (λ (x : Placed). x .buffer) there) ∙ length-written output (r .end) line);
+      }
+
+-- ---- the part of a block that was read
+
+pub part-counts : (n : ℕ) (block : List ℕ) → n ≤ length block → n ≡ length (take n block)
+part-counts n block within = sym (length-take-le n block within)
+
+-- there is room for it, if there was for the whole
+pub part-roomy : (n : ℕ) (block later output : List ℕ) → length later ≡ length block → n ≤ length later → Roomy block output → Roomy (take n later) output
+part-roomy n block later output same within roomy = omega (arith, length-take-le n later within)
