@@ -53,6 +53,7 @@ abbrev pub AllWhole : List (List ℕ) → Type 0
 AllWhole [] = Unit {0}
 AllWhole (block ∷ blocks) = Whole block × AllWhole blocks
 
+-- the bytes of them all
 abbrev pub joined : List (List ℕ) → List ℕ → List ℕ
 joined [] last = last
 joined (block ∷ blocks) last = block ++ joined blocks last
