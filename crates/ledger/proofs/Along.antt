@@ -14,7 +14,8 @@ use Rattle.ledger.specs.Journal.{readStep}
 use Rattle.ledger.specs.Ledger.{viewOf, freshLedger, accept, outcome, stepped}
 use Rattle.ledger.specs.Rules.{View, refusal, secretsOf}
 use Rattle.ledger.specs.Run.{offered, run, after, accepted, ledgerAfter, history}
-use Rattle.ledger.proofs.Rows.{first-number, none-number, number-first, none-applies}
+use Rattle.octets.proofs.RefusalLaws.{first-number, none-number, number-first}
+use Rattle.ledger.proofs.Rows.{none-applies}
 use Rattle.ledger.proofs.Facts.{Small}
 use Rattle.ledger.proofs.Move.{move, account-move, Accepted, nothing-yet, and-then}
 use Rattle.ledger.proofs.People.{peopled-account}

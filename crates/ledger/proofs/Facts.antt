@@ -12,7 +12,8 @@ use Rattle.ledger.specs.Claims.{stepOf}
 use Rattle.ledger.specs.Journal.{START, OPEN, LEARN, SWITCH, DROP}
 use Rattle.ledger.specs.Rules.{View, refusal, wait, anyAt}
 use Rattle.stages.proofs.BelowLaws.{any-none}
-use Rattle.ledger.proofs.Rows.{or-l, or-r, row}
+use Rattle.octets.proofs.RefusalLaws.{or-l, or-r}
+use Rattle.ledger.proofs.Rows.{row}
 
 -- row 3, of every kind
 pub in-time : (v : View) (s : Step) → refusal v s ≡ 0 → v .last ≤ s .time

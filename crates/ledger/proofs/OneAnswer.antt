@@ -10,7 +10,7 @@ use Rattle.ledger.specs.OneAnswer.{Answerer, acceptedBy, ByTheAccount, O
 use Rattle.ledger.specs.Rules.{View, refusals, refusal}
 use Rattle.ledger.specs.Ledger.{freshLedger}
 use Rattle.ledger.specs.Run.{offered, run, accepted, ledgerAfter, history}
-use Rattle.ledger.proofs.Rows.{told}
+use Rattle.octets.proofs.RefusalLaws.{told}
 use Rattle.ledger.proofs.Along.{answer-is, grown, Follows, follows-on, follows-fresh, answer-by-account, one-by-one, the-account}
 
 module _ (f : Answerer) (by : ByTheAccount f) where

@@ -7,7 +7,7 @@ use native.Mathlib.Nat.{not-suc-le-zero}
 use lib.Dec.{eqb, ltb}
 use borrow.Author.Tests.{ltb-true, ltb-false, lt-ltb, le-ltb, eqb-true, eqb-false, ne-eqb, not-true, not-false}
 use Rattle.stages.specs.Sets.{anyBelow, countBelow}
-use Rattle.ledger.proofs.Rows.{or-l, or-r}
+use Rattle.octets.proofs.RefusalLaws.{or-l, or-r}
 use Rattle.ledger.proofs.Move.{put}
 
 -- the sum of the stages of the members below n

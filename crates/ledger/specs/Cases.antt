@@ -57,7 +57,7 @@ lastOther = 0x22222222222222222222222222222223
 abbrev pub firstOther : ℕ
 firstOther = 0x23222222222222222222222222222222
 
--- the secret of sixteen bytes that are alike, by its words
+-- the secret of sixteen bytes that are alike, by its words: A, B and C
 abbrev pub alike : ℕ → Secret
 alike word = record { k0 = word; k1 = word }
 

@@ -1,7 +1,7 @@
 -- The lines of one record more, and what the loop holds after each. Assumes nothing.
 use Prim.Native.Nat.{ℕ, zero, suc, _+_, _-_, _*_, _/_, _%_, _^_, _≤_, _<_}
 use mathlib.Core.Path.{_≡_, refl, sym, ap, ap₂, subst, _∙_}
-use mathlib.Core.Bool.{Bool, true, false, cond, _&&_}
+use mathlib.Core.Bool.{Bool, _&&_}
 use mathlib.Core.List.{List, [], _∷_, _++_, append-assoc, append-nil}
 use native.Mathlib.Omega.{arith}
 use native.Mathlib.Nat.{min-le-left, min-le-right, add-zero}
@@ -12,7 +12,8 @@ use lib.ListN.{length, getD, take, drop, length-append, length-drop}
 use lib.Seq.{drop-drop, take-all, length-take-le, getD-drop}
 use Rattle.octets.specs.Runs.{written, fits}
 use Rattle.octets.proofs.RunLaws.{written-back, written-next, length-written}
-use Rattle.stages.specs.Sets.{memberLimit, countBelow}
+use Rattle.stages.proofs.BelowLaws.{count-most}
+use Rattle.stages.specs.Sets.{memberLimit}
 use Rattle.stages.specs.Stages.{countAt, isPresent, stageOf}
 use Rattle.stages.specs.declared.Stages.{Stages}
 use Rattle.ledger.specs.Answers.{answerNumber}
@@ -53,17 +54,8 @@ record-at l r buffer bytes block start b w e within =
     e ∙ ap (λ (x : List ℕ). offered l x) (w ∙ ap (λ (k : ℕ). written buffer 0 (take k (drop start block))) size ∙ put-whole buffer run (b ∙ sym long))
 
 -- how many members are at a stage is a number of 8 bits
-few : (n : ℕ) (test : ℕ → Bool) → countBelow n test ≤ n
-unfolding countBelow
-few zero test = omega arith
-few (suc n) test = go (few n test) (test n)
-  where
-    go : countBelow n test ≤ n → (b : Bool) → cond b 1 0 + countBelow n test ≤ suc n
-    go ih true = omega arith
-    go ih false = omega arith
-
 pub count-fits : (r : ℕ) (present : ℕ → Bool) (stage : ℕ → ℕ) (k : ℕ) → r ≡ countAt present stage k → r < 256
-count-fits r present stage k e = omega (arith, few memberLimit (λ m. present m && eqb (stage m) k))
+count-fits r present stage k e = omega (arith, count-most memberLimit (λ m. present m && eqb (stage m) k))
 
 abbrev rowWith : ℕ → ℕ → ℕ → Bool → ℕ → ℕ → ℕ → ℕ → Row
 rowWith number kind answer rolling c0 c1 c2 c3 = record { number = number; kind = kind; answer = answer; rolling = rolling; at0 = c0; at1 = c1; at2 = c2; at3 = c3 }

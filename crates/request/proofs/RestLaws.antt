@@ -1,7 +1,7 @@
 -- The checks in the order in which the code comes to them. Assumes nothing.
 use Prim.Native.Nat.{ℕ, suc, _+_, _-_, _≤_, _<_}
 use mathlib.Core.Path.{_≡_, refl, sym, ap, _∙_}
-use mathlib.Core.Bool.{Bool, true, false, not, _||_, or-true, true≢false}
+use mathlib.Core.Bool.{Bool, true, false, not, _||_, or-true}
 use mathlib.Core.List.{List, [], _∷_}
 use mathlib.Core.Option.{Option, none, some, Option·getD}
 use native.Mathlib.Omega.{arith}
@@ -9,7 +9,7 @@ use borrow.Author.Tests.{lt-ltb, le-ltb, le-leb, lt-leb, eq-eqb, ne-eqb, ltb-fal
 use lib.Dec.{eqb, ltb}
 use lib.ListN.{length, take, drop, getD, length-drop}
 use Rattle.octets.specs.Refusals.{_when_, first, answered, isNone, NoneApplies}
-use Rattle.octets.proofs.RefusalLaws.{Numbered, this-not, first-front, zero-none, first-behind}
+use Rattle.octets.proofs.RefusalLaws.{Numbered, or-l, or-r, this-not, first-front, zero-none, first-behind}
 use Rattle.edns.specs.Options.{options, optionsFrom, optionsIn, optionsOf, optionPast, firstCookie, isCookieLength, place, cookieIn}
 use Rattle.edns.specs.Options as edns
 use Rattle.edns.specs.declared.EdnsOption.{EdnsOption}
@@ -153,8 +153,7 @@ module _ (s : List ℕ) (o : Outline) (walked : outlineOf o ≡ outline s) (r : 
 -- ---- checks 3 and 4
 
 pub or-parts : (a b : Bool) → (a || b) ≡ false → (a ≡ false) × (b ≡ false)
-or-parts true b e = absurd (true≢false e)
-or-parts false b e = (refl, e)
+or-parts a b e = (or-l a b e, or-r a b e)
 
 pub head-numbered : (s : List ℕ) → Numbered (headChecks s)
 head-numbered s = ((2, refl), ((3, refl), tt))

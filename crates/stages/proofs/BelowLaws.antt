@@ -1,5 +1,5 @@
 -- What `anyBelow` and `countBelow` say of a test: of each number, and of two tests that agree. Assumes nothing.
-use Prim.Native.Nat.{ℕ, zero, suc, _+_, _<_}
+use Prim.Native.Nat.{ℕ, zero, suc, _+_, _<_, _≤_}
 use mathlib.Core.Path.{_≡_, refl, sym, ap, ap₂, _∙_}
 use mathlib.Core.Bool.{Bool, true, false, cond, _||_, or-true}
 use native.Mathlib.Nat.{not-suc-le-zero}
@@ -59,3 +59,13 @@ pub count-first : (n : ℕ) (test : ℕ → Bool) → countBelow (suc n) test �
 unfolding countBelow
 count-first zero test = refl
 count-first (suc n) test = ap (λ (k : ℕ). cond (test (suc n)) 1 0 + k) (count-first n test) ∙ omega arith
+
+-- no more than there are
+pub count-most : (n : ℕ) (test : ℕ → Bool) → countBelow n test ≤ n
+unfolding countBelow
+count-most zero test = omega arith
+count-most (suc n) test = go (count-most n test) (test n)
+  where
+    go : countBelow n test ≤ n → (b : Bool) → cond b 1 0 + countBelow n test ≤ suc n
+    go ih true = omega arith
+    go ih false = omega arith

@@ -55,6 +55,7 @@ impl Stages {
         }
     }
 
+    // Whether a number is a member's.
     pub fn is_present(self, member: u8) -> bool
         ensures { λ r. ⌜ r ≡ isPresent self member ⌝ }
     {
@@ -74,14 +75,14 @@ impl Stages {
         if is_in(self.learnt, member) { 1 } else { 0 }
     }
 
-    // Whether a member is at this stage.
+    // Whether any member is at this stage.
     pub fn any_at(self, stage: u8) -> bool
         ensures { λ r. ⌜ r ≡ anyAt (isPresent self) (stageOf self) stage ⌝ }
     {
         self.at(stage) != 0
     }
 
-    // How many members are.
+    // How many members are at this stage.
     pub fn count_at(self, stage: u8) -> u32
         ensures { λ r. ⌜ r ≡ countAt (isPresent self) (stageOf self) stage ⌝ }
     {
