@@ -1,6 +1,6 @@
 -- The text of a block has room, and what stands in the output is the text. Assumes nothing.
 use Prim.Native.Nat.{ℕ, zero, suc, _+_, _*_, _%_, _≤_, _<_}
-use mathlib.Core.Path.{_≡_, refl, sym, ap, ap₂, _∙_}
+use mathlib.Core.Path.{_≡_, refl, sym, ap, _∙_}
 use mathlib.Core.Bool.{Bool, true, false, cond}
 use mathlib.Core.List.{List, [], _∷_, _++_, append-nil}
 use native.Mathlib.Omega.{arith}
@@ -10,7 +10,7 @@ use lib.ListN.{length, getD, take, drop, length-append}
 use lib.Seq.{getD-take, getD-drop, length-take-le}
 use Rattle.octets.specs.Refusals.{Row, first}
 use Rattle.octets.specs.Runs.{written}
-use Rattle.octets.proofs.RunLaws.{length-written, written-next}
+use Rattle.octets.proofs.RunLaws.{length-written}
 use Rattle.stages.specs.Stages.{isPresent, stageOf}
 use Rattle.ledger.specs.declared.Step.{Step}
 use Rattle.ledger.specs.Journal.{readStep}
@@ -18,13 +18,13 @@ use Rattle.ledger.specs.Ledger.{viewOf}
 use Rattle.ledger.specs.Rules.{View, refusals, refusal}
 use Rattle.ledger.specs.Run.{offered}
 use Rattle.ledger.proofs.Along.{answer-is}
-use Rattle.rows.specs.Rows.{rowLine, shortLine, longest, _leaving_, placed, Placed}
-use Rattle.rows.proofs.RowLaws.{row-fits, short-fits, placed-room}
+use Rattle.rows.specs.Rows.{rowLine, shortLine, longest, _leaving_, placed}
+use Rattle.rows.proofs.RowLaws.{row-fits, short-fits}
 use Rattle.listing.specs.declared.Lister.{Lister}
 use Rattle.listing.specs.declared.Listed.{Listed}
 use Rattle.listing.specs.Answers.{blockOf}
 use Rattle.listing.specs.Listing.{size, rowOf, listerAfter, linesOf, listerPast, tailLine, room, Block, listed}
-use Rattle.listing.proofs.ListLaws.{count-fits}
+use Rattle.listing.proofs.ListLaws.{count-fits, behind}
 use Rattle.list_input.specs.Text.{records, textOf, Roomy, PutOf}
 
 -- ---- no line is longer than the longest
@@ -121,21 +121,15 @@ module _ (at : Lister) (bytes before : List ℕ) (roomy : Roomy bytes before) (k
       let stand = lines-stand r output e in
       let lines = linesOf (records bytes) at bytes in
       let line = shortLine left in
-      let long : length output ≡ length before = ap length (stand .holds) ∙ length-written before 0 lines in
-      let there = p ∙ placed-room output (r .end) line (omega (arith, stand .within)) in
       let short : length line ≤ longest = short-fits left (omega (arith, l .1)) in
+      let b = behind before output now lines line (r .end) end (stand .holds) (stand .ends) (stand .within) short p in
       let text : lines ++ line ≡ textOf at bytes last = ap (λ (x : List ℕ). lines ++ x) (rw (ne-eqb left 0 some)) ∙ ap (λ (k : ℕ). lines ++ tailLine k) (l .0) in
-      let ends : end ≡ r .end + length line = ap (λ (x : Placed). x .end) there in
-      let start : r .end ≡ 0 + length lines = omega (arith, stand .ends) in
+      let long : length now ≡ length before = ap length (b .0) ∙ length-written before 0 (lines ++ line) in
       record {
         lister = stand .past;
-        holds =
-            ap (λ (x : Placed). x .buffer) there
-            ∙ ap₂ (λ (x : List ℕ) (k : ℕ). written x k line) (stand .holds) start
-            ∙ written-next before 0 lines line (omega (arith, stand .within, short))
-            ∙ ap (λ (x : List ℕ). written before 0 x) text;
-        ends = omega (arith, length-append lines line, ap length text);
-        within = omega (arith, stand .within, short, ap length (ap (λ (x : Placed). x .buffer) there) ∙ length-written output (r .end) line);
+        holds = b .0 ∙ ap (λ (x : List ℕ). written before 0 x) text;
+        ends = b .1 ∙ ap length text;
+        within = omega (arith, long, b .1, length-append lines line, stand .ends, stand .within, short);
       }
 
 -- ---- the part of a block that was read

@@ -151,7 +151,7 @@ unfolding linesOf listerPast written fits
 none-yet at block output = record { past = refl; holds = rw (le-leb 0 (length output) (omega arith)); ends = refl; within = omega arith }
 
 -- a line behind others
-behind : (before output now lines text : List ℕ) (end next : ℕ) → output ≡ written before 0 lines → end ≡ length lines → end + longest ≤ length before → length text ≤ longest
+pub behind : (before output now lines text : List ℕ) (end next : ℕ) → output ≡ written before 0 lines → end ≡ length lines → end + longest ≤ length before → length text ≤ longest
     → rows._leaving_ next now ≡ placed output end text → (now ≡ written before 0 (lines ++ text)) × (next ≡ length (lines ++ text))
 behind before output now lines text end next o e room short p =
     let long : length output ≡ length before = ap length o ∙ length-written before 0 lines in
