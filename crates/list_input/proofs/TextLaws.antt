@@ -1,72 +1,23 @@
 -- The text of a block has room, and what stands in the output is the text. Assumes nothing.
-use Prim.Native.Nat.{ℕ, zero, suc, _+_, _*_, _%_, _≤_, _<_}
-use mathlib.Core.Path.{_≡_, refl, sym, ap, _∙_}
-use mathlib.Core.Bool.{Bool, true, false, cond}
-use mathlib.Core.List.{List, [], _∷_, _++_, append-nil}
+use Prim.Native.Nat.{ℕ, _+_, _*_, _%_, _≤_, _<_}
+use mathlib.Core.Path.{_≡_, sym, ap, _∙_}
+use mathlib.Core.Bool.{Bool, cond}
+use mathlib.Core.List.{List, _++_, append-nil}
 use native.Mathlib.Omega.{arith}
-use native.Mathlib.Nat.{min-eq-left, mod-lt}
+use native.Mathlib.Nat.{min-eq-left}
 use borrow.Author.Tests.{ne-eqb}
-use lib.ListN.{length, getD, take, drop, length-append}
-use lib.Seq.{getD-take, getD-drop, length-take-le}
-use Rattle.octets.specs.Refusals.{Row, first}
+use lib.ListN.{length, take, length-append}
+use lib.Seq.{length-take-le}
 use Rattle.octets.specs.Runs.{written}
 use Rattle.octets.proofs.RunLaws.{length-written}
-use Rattle.stages.specs.Stages.{isPresent, stageOf}
-use Rattle.ledger.specs.declared.Step.{Step}
-use Rattle.ledger.specs.Journal.{readStep}
-use Rattle.ledger.specs.Ledger.{viewOf}
-use Rattle.ledger.specs.Rules.{View, refusals, refusal}
-use Rattle.ledger.specs.Run.{offered}
-use Rattle.ledger.proofs.Along.{answer-is}
-use Rattle.rows.specs.Rows.{rowLine, shortLine, longest, _leaving_, placed}
-use Rattle.rows.proofs.RowLaws.{row-fits, short-fits}
+use Rattle.rows.specs.Rows.{shortLine, longest, _leaving_, placed}
+use Rattle.rows.proofs.RowLaws.{short-fits}
 use Rattle.listing.specs.declared.Lister.{Lister}
 use Rattle.listing.specs.declared.Listed.{Listed}
 use Rattle.listing.specs.Answers.{blockOf}
-use Rattle.listing.specs.Listing.{size, rowOf, listerAfter, linesOf, listerPast, tailLine, room, Block, listed}
-use Rattle.listing.proofs.ListLaws.{count-fits, behind}
+use Rattle.listing.specs.Listing.{size, linesOf, listerPast, tailLine, room, Block, listed}
+use Rattle.listing.proofs.ListLaws.{behind}
 use Rattle.list_input.specs.Text.{records, textOf, Roomy, PutOf}
-
--- ---- no line is longer than the longest
-
-abbrev Low : List Row → Type 0
-Low [] = Unit {0}
-Low (r ∷ rows) = (r .number < 256) × Low rows
-
-first-low : (rows : List Row) → Low rows → first rows < 256
-first-low [] low = omega arith
-first-low (r ∷ rows) low = go (first-low rows (low .1)) (r .applies)
-  where
-    go : first rows < 256 → (b : Bool) → cond b (r .number) (first rows) < 256
-    go later true = low .0
-    go later false = later
-
-answer-low : (v : View) (s : Step) → refusal v s < 256
-unfolding refusal
-answer-low v s =
-    first-low (refusals v s)
-    (omega arith, (omega arith, (omega arith, (omega arith, (omega arith, (omega arith, (omega arith, (omega arith, (omega arith, (omega arith, tt))))))))))
-
-abbrev Bytes : List ℕ → Type 0
-Bytes bytes = (i : ℕ) → getD bytes i 0 < 256
-
-line-fits : (at : Lister) (bytes : List ℕ) → Bytes bytes → length (rowLine (rowOf at (take size bytes))) ≤ longest
-unfolding rowOf
-line-fits at bytes known =
-    let first = take size bytes in
-    let after = offered (at .ledger) first .ledger .stages in
-    row-fits (rowOf at first) (mod-lt (at .number + 1) (omega arith)) (omega (arith, known 0, getD-take size bytes 0 0 (omega arith)))
-    (omega (arith, answer-is (at .ledger) first, answer-low (viewOf (at .ledger)) (readStep first)))
-    (count-fits _ (isPresent after) (stageOf after) 0 refl) (count-fits _ (isPresent after) (stageOf after) 1 refl)
-    (count-fits _ (isPresent after) (stageOf after) 2 refl) (count-fits _ (isPresent after) (stageOf after) 3 refl)
-
-lines-fit : (n : ℕ) (at : Lister) (bytes : List ℕ) → Bytes bytes → length (linesOf n at bytes) ≤ n * longest
-unfolding linesOf
-lines-fit zero at bytes known = omega arith
-lines-fit (suc n) at bytes known =
-    let next = listerAfter at (take size bytes) in
-    let rest = lines-fit n next (drop size bytes) (λ i. omega (arith, known (size + i), getD-drop size bytes i 0)) in
-    omega (arith, length-append (rowLine (rowOf at (take size bytes))) (linesOf n next (drop size bytes)), line-fits at bytes known)
 
 -- ---- what stands in the output
 
@@ -74,7 +25,7 @@ lines-fit (suc n) at bytes known =
 whole : (bytes output : List ℕ) → Roomy bytes output → room bytes output ≡ records bytes
 whole bytes output roomy = min-eq-left (omega arith)
 
-module _ (at : Lister) (bytes before : List ℕ) (roomy : Roomy bytes before) (known : Bytes bytes) where
+module _ (at : Lister) (bytes before : List ℕ) (roomy : Roomy bytes before) where
   -- the lines of every record, where they end, and the lister after them
   record Lines (r : Listed) (output : List ℕ) : Type 0 where
     pub past : r .lister ≡ listerPast (records bytes) at bytes
@@ -82,20 +33,21 @@ module _ (at : Lister) (bytes before : List ℕ) (roomy : Roomy bytes before) (k
     pub ends : r .end ≡ length (linesOf (records bytes) at bytes)
     pub within : r .end + longest ≤ length before
 
-  lines-stand : (r : Listed) (output : List ℕ) → blockOf r output ≡ listed at bytes before → Lines r output
+  lines-stand : (r : Listed) (output : List ℕ) → (blockOf r output ≡ listed at bytes before) × (r .end ≤ r .records * longest) → Lines r output
   unfolding listed
-  lines-stand r output e =
+  lines-stand r output h =
+      let e = h .0 in
       let n = whole bytes before roomy in
       let ends : r .end ≡ length (linesOf (records bytes) at bytes) = ap (λ (x : Block). x .end) e ∙ ap (λ (k : ℕ). length (linesOf k at bytes)) n in
       record {
         past = ap (λ (x : Block). x .lister) e ∙ ap (λ (k : ℕ). listerPast k at bytes) n;
         holds = ap (λ (x : Block). x .output) e ∙ ap (λ (k : ℕ). written before 0 (linesOf k at bytes)) n;
         ends = ends;
-        within = omega (arith, ends, lines-fit (records bytes) at bytes known);
+        within = omega (arith, h .1, ap (λ (x : Block). x .records) e ∙ n);
       }
 
   -- nothing is left over
-  pub put-lines : (r : Listed) (output : List ℕ) (last : Bool) (left : ℕ) → blockOf r output ≡ listed at bytes before
+  pub put-lines : (r : Listed) (output : List ℕ) (last : Bool) (left : ℕ) → (blockOf r output ≡ listed at bytes before) × (r .end ≤ r .records * longest)
       → (left ≡ cond last (length bytes % size) 0) × (left < size) → left ≡ 0
       → PutOf at bytes last before (r .lister) (r .end) output
   unfolding textOf
@@ -112,7 +64,7 @@ module _ (at : Lister) (bytes before : List ℕ) (roomy : Roomy bytes before) (k
       }
 
   -- the line of what is left over, behind the others
-  pub put-tail : (r : Listed) (output now : List ℕ) (last : Bool) (left end : ℕ) → blockOf r output ≡ listed at bytes before
+  pub put-tail : (r : Listed) (output now : List ℕ) (last : Bool) (left end : ℕ) → (blockOf r output ≡ listed at bytes before) × (r .end ≤ r .records * longest)
       → (left ≡ cond last (length bytes % size) 0) × (left < size) → (left ≡ 0 → ⊥)
       → end leaving now ≡ placed output (r .end) (shortLine left)
       → PutOf at bytes last before (r .lister) end now

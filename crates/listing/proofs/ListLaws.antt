@@ -190,3 +190,6 @@ all-listed at lister block before output end records i r low high so =
     let e : i ≡ room block before = omega arith in
     let all = subst (λ (k : ℕ). Sofar at block before output lister end k) e so in
     λ j. record { records = r j; end = all .ends j; lister = all .past j; output = all .holds j }
+
+pub all-short : (at lister : Lister) (block before output : List ℕ) (end records i : ℕ) → i ≤ records → Sofar at block before output lister end i → end ≤ records * longest
+all-short at lister block before output end records i low so = omega (arith, so .within)

@@ -4,7 +4,7 @@ use ledger::Ledger;
 use ledger::Stepped;
 use rows::Row;
 ghost use mathlib.Core.Path.{_≡_};
-ghost use Prim.Native.Nat.{_+_, _≤_, min};
+ghost use Prim.Native.Nat.{_+_, _*_, _≤_, min};
 ghost use lib.ListN.{length, take, drop};
 ghost use Rattle.ledger.specs.Answers.{answerNumber};
 ghost use Rattle.ledger.specs.Ledger.{_leaving_};
@@ -44,9 +44,9 @@ impl Lister {
     }
 
     // Lists the whole records of a block, as far as the output has room for the longest line of each. What stands behind the lines in
-    // the output stays.
+    // the output stays. That no line is longer than the longest is said too, so that a caller knows what room is left.
     pub fn list(self, block: &[u8], output: &mut [u8]) -> Listed
-        ensures { λ r. ⌜ blockOf r (now (output .exit)) ≡ listed self (now (block .entry)) (now (output .entry)) ⌝ }
+        ensures { λ r. ⌜ (blockOf r (now (output .exit)) ≡ listed self (now (block .entry)) (now (output .entry))) × (r .end ≤ r .records * longest) ⌝ }
     {
         let records = least(block.len() / Lister::SIZE, output.len() / rows::LONGEST);
         let mut lister = self;

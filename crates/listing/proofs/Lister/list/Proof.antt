@@ -3,7 +3,7 @@ use Prim.Native.Nat.{_-_, _≤_}
 use mathlib.Core.Path.{_≡_}
 use borrow.Author.Needs.{needs}
 use Rattle.listing.specs.Listing.{room}
-use Rattle.listing.proofs.ListLaws.{Sofar, whole-record, none-yet, one-more, as-long, all-listed}
+use Rattle.listing.proofs.ListLaws.{Sofar, whole-record, none-yet, one-more, as-long, all-listed, all-short}
 use Rattle.listing.proofs.Lister.list.Statement.{statement}
 use Rattle.listing.proofs.Lister.list.Tie as tie
 
@@ -29,7 +29,7 @@ same-length : tie.Need-same-length Inv-loop μ-loop
 same-length c = search (needs, as-long)
 
 returns : tie.Need-returns Inv-loop μ-loop
-returns c = search (needs, all-listed)
+returns c = (search (needs, all-listed), search (needs, all-short))
 
 pub list-spec : {M : Type 1} → statement M
 list-spec =
