@@ -11,20 +11,21 @@ use Rattle.ledger.specs.Journal.{START, OPEN, LEARN, SWITCH, DROP, CANCE
 use Rattle.ledger.specs.Rules.{View, refusal}
 use Rattle.ledger.proofs.Rows.{row}
 
--- something holds of every step of a kind that nothing refuses
-abbrev pub OfKind : View → (Step → Type 0) → ℕ → Type 0
-OfKind v P kind = (m t : ℕ) (b : Secret) → refusal v (stepOf kind m t b) ≡ 0 → P (stepOf kind m t b)
+module _ (w : ℕ) (v : View) (P : Step → Type 0) where
+  -- something holds of every step of a kind that nothing refuses
+  abbrev pub OfKind : ℕ → Type 0
+  OfKind kind = (m t : ℕ) (b : Secret) → refusal w v (stepOf kind m t b) ≡ 0 → P (stepOf kind m t b)
 
--- of each kind
-pub record EachKind (v : View) (P : Step → Type 0) : Type 0 where
-  pub starts : OfKind v P START
-  pub opens : OfKind v P OPEN
-  pub learns : OfKind v P LEARN
-  pub switches : OfKind v P SWITCH
-  pub drops : OfKind v P DROP
-  pub cancels : OfKind v P CANCEL
+  -- of each kind
+  pub record EachKind : Type 0 where
+    pub starts : OfKind START
+    pub opens : OfKind OPEN
+    pub learns : OfKind LEARN
+    pub switches : OfKind SWITCH
+    pub drops : OfKind DROP
+    pub cancels : OfKind CANCEL
 
-kind-of : {v : View} {P : Step → Type 0} → EachKind v P → (kind : ℕ) → kind ≤ CANCEL → OfKind v P kind
+kind-of : {w : ℕ} {v : View} {P : Step → Type 0} → EachKind w v P → (kind : ℕ) → kind ≤ CANCEL → OfKind w v P kind
 kind-of each zero low = each .starts
 kind-of each (suc zero) low = each .opens
 kind-of each (suc (suc zero)) low = each .learns
@@ -34,11 +35,12 @@ kind-of each (suc (suc (suc (suc (suc zero))))) low = each .cancels
 kind-of each (suc (suc (suc (suc (suc (suc kind)))))) low = absurd (omega arith)
 
 -- then it holds of every step that nothing refuses: each is of one of these kinds
-pub byKind : {v : View} {P : Step → Type 0} → EachKind v P → (s : Step) → refusal v s ≡ 0 → P s
-byKind {v = v} each s e = kind-of each (s .kind) (ltb-false CANCEL (s .kind) (row v s e 1)) (s .member) (s .time) (s .secret) e
+pub byKind : {w : ℕ} {v : View} {P : Step → Type 0} → EachKind w v P → (s : Step) → refusal w v s ≡ 0 → P s
+byKind {w} {v} each s e = kind-of each (s .kind) (ltb-false CANCEL (s .kind) (row w v s e 1)) (s .member) (s .time) (s .secret) e
 
 -- what is said of member steps alone
-pub of-members : {v : View} {P : Step → Type 0} → OfKind v P LEARN → OfKind v P SWITCH → OfKind v P DROP → EachKind v (λ s. isMemberStep s ≡ true → P s)
+pub of-members : {w : ℕ} {v : View} {P : Step → Type 0} → OfKind w v P LEARN → OfKind w v P SWITCH → OfKind w v P DROP
+    → EachKind w v (λ s. isMemberStep s ≡ true → P s)
 of-members learns switches drops = record {
   starts = λ m t b e is. absurd (false≢true is);
   opens = λ m t b e is. absurd (false≢true is);

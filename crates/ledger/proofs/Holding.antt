@@ -1,21 +1,49 @@
 -- A member's secrets, by the account of the steps that were accepted. Assumes nothing.
-use Prim.Native.Nat.{ℕ, _<_}
+use Prim.Native.Nat.{ℕ, _-_, _≤_, _<_}
 use mathlib.Core.Path.{_≡_, refl, ap, _∙_}
-use mathlib.Core.Bool.{Bool, true, false, cond, _||_, and-false}
+use mathlib.Core.Bool.{Bool, true, false, cond, _&&_, _||_, and-false}
 use mathlib.Core.List.{List, [], _∷_}
 use mathlib.Core.Option.{some}
 use native.Mathlib.Omega.{arith}
-use borrow.Author.Tests.{ltb-true, lt-ltb, le-ltb}
+use lib.Dec.{eqb, leb}
+use borrow.Author.Tests.{ltb-true, lt-ltb, le-ltb, leb-true}
 use Rattle.secret.specs.declared.Secrets.{Secrets}
 use Rattle.ledger.specs.declared.Step.{Step}
 use Rattle.ledger.specs.Account.{account, startedBy, countBy, openBy, openedBy, currentBy, reachedBy}
 use Rattle.ledger.specs.Claims.{HeldBy}
-use Rattle.ledger.specs.Journal.{START, is}
+use Rattle.ledger.specs.Journal.{START, OPEN, LEARN, DROP, is, isMemberStep}
 use Rattle.ledger.specs.Rules.{View, noSecret, stageTable, secretsOf}
 
 -- the stage table's, at what is seen of a ledger
 abbrev pub secretsAt : View → ℕ → Secrets
 secretsAt v m = stageTable (v .stage m) (v .current) (v .new)
+
+-- no step takes a member past stage 3
+step-most : (s : Step) (m n : ℕ) → n ≤ 3 → cond (isMemberStep s && eqb (s .member) m) (s .kind - OPEN) n ≤ 3
+step-most s m n low = go (leb LEARN (s .kind)) (leb (s .kind) DROP) refl (eqb (s .member) m)
+  where
+    go : (a b : Bool) → leb (s .kind) DROP ≡ b → (c : Bool) → cond ((a && b) && c) (s .kind - OPEN) n ≤ 3
+    go true true q true = omega (arith, leb-true (s .kind) DROP q)
+    go true true q false = low
+    go true false q c = low
+    go false b q c = low
+
+reached-most : (h : List Step) (m : ℕ) → reachedBy h m ≤ 3
+reached-most [] m = omega arith
+reached-most (s ∷ h) m = go (leb (s .kind) OPEN) (step-most s m (reachedBy h m) (reached-most h m))
+  where
+    go : (c : Bool) → cond (isMemberStep s && eqb (s .member) m) (s .kind - OPEN) (reachedBy h m) ≤ 3
+        → cond c 0 (cond (isMemberStep s && eqb (s .member) m) (s .kind - OPEN) (reachedBy h m)) ≤ 3
+    go true low = omega arith
+    go false low = low
+
+stage-most : (h : List Step) (m : ℕ) → account h .stage m ≤ 3
+unfolding account
+stage-most h m = go (openBy h)
+  where
+    go : (c : Bool) → cond c (reachedBy h m) 0 ≤ 3
+    go true = reached-most h m
+    go false = omega arith
 
 -- where there is a number below the count there was a START
 begun : (h : List Step) (m : ℕ) → m < countBy h → startedBy h ≡ true
@@ -50,6 +78,7 @@ module _ (h : List Step) (m : ℕ) where
   pub held-by : HeldBy h m (secretsOf (account h) m)
   unfolding account secretsOf
   held-by = record {
+    at-most = stage-most h m;
     none-held = λ high. rw (le-ltb m (countBy h) high, and-false (startedBy h));
     at-0 = held-at 0;
     at-1 = held-at 1;

@@ -10,7 +10,9 @@ pub mod OneAnswer
 pub mod People
 pub mod Rows
 pub mod RuleLaws
+pub mod Safe
 pub mod Sound
+pub mod Stays
 pub mod TheTable
 pub mod ThreeEach
 pub mod Totals

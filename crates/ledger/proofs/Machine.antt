@@ -23,36 +23,36 @@ unfolding freshLedger account
 sees-fresh = view-path _ _ refl (λ k. none-present k ∙ sym (leb·suc-zero k)) refl refl refl none-stage refl refl
 
 -- what an accepted step makes of a ledger
-module _ (l : Ledger) (small : Small (isPresent (l .stages))) where
+module _ (w : ℕ) (l : Ledger) (small : Small (isPresent (l .stages))) where
   abbrev Sees : Step → Type 0
   Sees s = viewOf (accept l s) ≡ move (viewOf l) s
 
-  sees-start : OfKind (viewOf l) Sees START
+  sees-start : OfKind w (viewOf l) Sees START
   unfolding accept move
-  sees-start m t b e = view-path _ _ refl (λ k. first-present m k (start-facts (viewOf l) m t b e .room)) refl refl refl (first-stage m) refl refl
+  sees-start m t b e = view-path _ _ refl (λ k. first-present m k (start-facts w (viewOf l) m t b e .room)) refl refl refl (first-stage m) refl refl
 
-  sees-open : OfKind (viewOf l) Sees OPEN
+  sees-open : OfKind w (viewOf l) Sees OPEN
   unfolding accept move
   sees-open m t b e = view-path _ _ refl (λ k. refl) refl refl refl (reset-stage (l .stages)) refl refl
 
-  sees-learn : OfKind (viewOf l) Sees LEARN
+  sees-learn : OfKind w (viewOf l) Sees LEARN
   unfolding accept move
   sees-learn m t b e =
-      let x = learn-facts (viewOf l) m t b e in
+      let x = learn-facts w (viewOf l) m t b e in
       view-path _ _ refl (λ k. refl) refl refl refl (λ k. learnt-stage (l .stages) m k (small m (x .member)) (x .at)) refl refl
 
-  sees-switch : OfKind (viewOf l) Sees SWITCH
+  sees-switch : OfKind w (viewOf l) Sees SWITCH
   unfolding accept move
   sees-switch m t b e =
-      let x = switch-facts (viewOf l) m t b e in
+      let x = switch-facts w (viewOf l) m t b e in
       view-path _ _ refl (λ k. refl) refl refl refl (λ k. switched-stage (l .stages) m k (small m (x .member)) (x .at)) refl refl
 
-  sees-drop : OfKind (viewOf l) Sees DROP
+  sees-drop : OfKind w (viewOf l) Sees DROP
   unfolding accept move
   sees-drop m t b e = go (dropsAll (viewOf l) m) refl
     where
       stages : (k : ℕ) → stageOf (droppedBy (l .stages) m) k ≡ put (stageOf (l .stages)) m 3 k
-      stages k = let x = drop-facts (viewOf l) m t b e in dropped-stage (l .stages) m k (small m (x .member)) (x .at)
+      stages k = let x = drop-facts w (viewOf l) m t b e in dropped-stage (l .stages) m k (small m (x .member)) (x .at)
 
       same-test : allDropped (isPresent (l .stages)) (stageOf (droppedBy (l .stages) m)) ≡ dropsAll (viewOf l) m
       same-test = λ i. allDropped (isPresent (l .stages)) (λ k. stages k i)
@@ -61,12 +61,12 @@ module _ (l : Ledger) (small : Small (isPresent (l .stages))) where
       go true q = rw (same-test ∙ q, q) (view-path _ _ refl (λ k. refl) refl refl refl (reset-stage (l .stages)) refl refl)
       go false q = rw (same-test ∙ q, q) (view-path _ _ refl (λ k. refl) refl refl refl stages refl refl)
 
-  sees-cancel : OfKind (viewOf l) Sees CANCEL
+  sees-cancel : OfKind w (viewOf l) Sees CANCEL
   unfolding accept move
   sees-cancel m t b e = view-path _ _ refl (λ k. refl) refl refl refl (reset-stage (l .stages)) refl refl
 
-  each-sees : EachKind (viewOf l) Sees
+  each-sees : EachKind w (viewOf l) Sees
   each-sees = record { starts = sees-start; opens = sees-open; learns = sees-learn; switches = sees-switch; drops = sees-drop; cancels = sees-cancel }
 
-pub sees : (l : Ledger) → Small (isPresent (l .stages)) → (s : Step) → refusal (viewOf l) s ≡ 0 → viewOf (accept l s) ≡ move (viewOf l) s
-sees l small = byKind (each-sees l small)
+pub sees : (w : ℕ) (l : Ledger) → Small (isPresent (l .stages)) → (s : Step) → refusal w (viewOf l) s ≡ 0 → viewOf (accept l s) ≡ move (viewOf l) s
+sees w l small = byKind (each-sees w l small)

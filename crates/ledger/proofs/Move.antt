@@ -97,9 +97,9 @@ drop-either P v m t b last more = go (dropsAll v m) refl
     go false q = rw q (more q)
 
 -- two views are equal if their parts are, members and stages one by one
-pub view-path : (v w : View) → v .started ≡ w .started → ((k : ℕ) → v .present k ≡ w .present k) → v .current ≡ w .current → v .rolling ≡ w .rolling
-    → v .new ≡ w .new → ((k : ℕ) → v .stage k ≡ w .stage k) → v .last ≡ w .last → v .lastSwitch ≡ w .lastSwitch → v ≡ w
-view-path v w started present current rolling new stage last lastSwitch = λ i. record {
+pub view-path : (v u : View) → v .started ≡ u .started → ((k : ℕ) → v .present k ≡ u .present k) → v .current ≡ u .current → v .rolling ≡ u .rolling
+    → v .new ≡ u .new → ((k : ℕ) → v .stage k ≡ u .stage k) → v .last ≡ u .last → v .lastSwitch ≡ u .lastSwitch → v ≡ u
+view-path v u started present current rolling new stage last lastSwitch = λ i. record {
   started = started i;
   present = λ k. present k i;
   current = current i;
@@ -112,17 +112,17 @@ view-path v w started present current rolling new stage last lastSwitch = λ i. 
 
 -- ---- the account makes the move
 
-module _ (h : List Step) where
+module _ (w : ℕ) (h : List Step) where
   abbrev Moves : Step → Type 0
   Moves s = account (s ∷ h) ≡ move (account h) s
 
-  learn-move : OfKind (account h) Moves LEARN
+  learn-move : OfKind w (account h) Moves LEARN
   unfolding account move
-  learn-move m t b e = let o = learn-facts (account h) m t b e .rolling in view-path _ _ refl (λ k. refl) refl (rw o) (rw o) (λ k. rw o) refl refl
+  learn-move m t b e = let o = learn-facts w (account h) m t b e .rolling in view-path _ _ refl (λ k. refl) refl (rw o) (rw o) (λ k. rw o) refl refl
 
-  switch-move : OfKind (account h) Moves SWITCH
+  switch-move : OfKind w (account h) Moves SWITCH
   unfolding account move
-  switch-move m t b e = let o = switch-facts (account h) m t b e .rolling in view-path _ _ refl (λ k. refl) refl (rw o) (rw o) (λ k. rw o) refl refl
+  switch-move m t b e = let o = switch-facts w (account h) m t b e .rolling in view-path _ _ refl (λ k. refl) refl (rw o) (rw o) (λ k. rw o) refl refl
 
   -- the account's test for the last DROP is the view's
   closes-all : openBy h ≡ true → (m t : ℕ) (b : Secret) → dropsAll (account h) m ≡ closes (stepOf DROP m t b) h
@@ -132,18 +132,18 @@ module _ (h : List Step) where
       stages : (k : ℕ) → put (account h .stage) m 3 k ≡ reachedBy (stepOf DROP m t b ∷ h) k
       stages k = rw o
 
-  drop-move : OfKind (account h) Moves DROP
+  drop-move : OfKind w (account h) Moves DROP
   unfolding account move
   drop-move m t b e = go (closes (stepOf DROP m t b) h) refl
     where
       o : openBy h ≡ true
-      o = drop-facts (account h) m t b e .rolling
+      o = drop-facts w (account h) m t b e .rolling
 
       go : (c : Bool) → closes (stepOf DROP m t b) h ≡ c → Moves (stepOf DROP m t b)
       go true q = rw (closes-all o m t b ∙ q) (view-path _ _ refl (λ k. refl) (rw (o, q)) (rw (o, q)) (rw (o, q)) (λ k. rw (o, q)) refl refl)
       go false q = rw (closes-all o m t b ∙ q) (view-path _ _ refl (λ k. refl) (rw q) (rw (o, q)) (rw (o, q)) (λ k. rw (o, q)) refl refl)
 
-  each-moves : EachKind (account h) Moves
+  each-moves : EachKind w (account h) Moves
   unfolding account move
   each-moves = record {
     starts = λ m t b e. refl;
@@ -154,18 +154,18 @@ module _ (h : List Step) where
     cancels = λ m t b e. refl;
   }
 
-pub account-move : (h : List Step) (s : Step) → refusal (account h) s ≡ 0 → account (s ∷ h) ≡ move (account h) s
-account-move h = byKind (each-moves h)
+pub account-move : (w : ℕ) (h : List Step) (s : Step) → refusal w (account h) s ≡ 0 → account (s ∷ h) ≡ move (account h) s
+account-move w h = byKind (each-moves w h)
 
 -- ---- along accepted steps
 
 -- steps that are accepted one after the other, the newest first
-pub data Accepted : List Step → Type 0 where
-  nothing-yet : Accepted []
-  and-then : {h : List Step} (s : Step) → Accepted h → refusal (account h) s ≡ 0 → Accepted (s ∷ h)
+pub data Accepted (w : ℕ) : List Step → Type 0 where
+  nothing-yet : Accepted w []
+  and-then : {h : List Step} (s : Step) → Accepted w h → refusal w (account h) s ≡ 0 → Accepted w (s ∷ h)
 
 -- what holds before the first, and is kept by every accepted step, holds of the account
-pub of-account : (P : View → Type 0) → P (account []) → ((v : View) (s : Step) → refusal v s ≡ 0 → P v → P (move v s)) → {h : List Step} → Accepted h
-    → P (account h)
+pub of-account : {w : ℕ} (P : View → Type 0) → P (account []) → ((v : View) (s : Step) → refusal w v s ≡ 0 → P v → P (move v s)) → {h : List Step}
+    → Accepted w h → P (account h)
 of-account P fresh keep nothing-yet = fresh
-of-account P fresh keep (and-then {h = h} s a e) = subst P (sym (account-move h s e)) (keep (account h) s e (of-account P fresh keep a))
+of-account {w} P fresh keep (and-then {h = h} s a e) = subst P (sym (account-move w h s e)) (keep (account h) s e (of-account P fresh keep a))

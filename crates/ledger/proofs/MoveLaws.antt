@@ -23,7 +23,7 @@ use Rattle.ledger.specs.declared.Step.{Step}
 use Rattle.ledger.specs.Answers.{refusalNumber, answerNumber}
 use Rattle.ledger.specs.Journal.{readStep}
 use Rattle.ledger.specs.Ledger.{viewOf, freshLedger, afterStart, afterOpen, afterMove, afterClose, afterDrop, accept, _leaving_, stepped}
-use Rattle.ledger.specs.Rules.{noSecret, refusal, stageTable, secretsOf}
+use Rattle.ledger.specs.Rules.{wait, noSecret, refusal, stageTable, secretsOf}
 
 -- ---- a record
 
@@ -120,12 +120,12 @@ one-up OtherStage = (7, refl)
 one-up OthersApart = (8, refl)
 one-up Wait = (9, refl)
 
-module _ (l : Ledger) (s r : Step) (a : Answer) (read : s ≡ r) (checked : answerNumber a ≡ refusal (viewOf l) s) where
-  pub step-accepted : (m : Ledger) → a ≡ Accepted → m ≡ accept l s → (0 leaving m) ≡ stepped l r
+module _ (l : Ledger) (s r : Step) (a : Answer) (read : s ≡ r) (checked : answerNumber a ≡ refusal wait (viewOf l) s) where
+  pub step-accepted : (m : Ledger) → a ≡ Accepted → m ≡ accept l s → (0 leaving m) ≡ stepped wait l r
   unfolding stepped
   step-accepted m h e = rw (← read, ← checked, h) (ap (λ (x : Ledger). 0 leaving x) e)
 
-  pub step-refused : (m : Ledger) (reason : Refusal) → a ≡ Refused reason → m ≡ l → (refusalNumber reason leaving m) ≡ stepped l r
+  pub step-refused : (m : Ledger) (reason : Refusal) → a ≡ Refused reason → m ≡ l → (refusalNumber reason leaving m) ≡ stepped wait l r
   unfolding stepped
   step-refused m reason h e =
       let up = one-up reason in

@@ -21,17 +21,17 @@ pub record Members (started : Bool) (present : ℕ → Bool) : Type 0 where
 abbrev pub Peopled : View → Type 0
 Peopled v = Members (v .started) (v .present)
 
-module _ (v : View) (p : Peopled v) where
+module _ (w : ℕ) (v : View) (p : Peopled v) where
   abbrev Stays : Step → Type 0
   Stays s = Peopled (move v s)
 
-  first-members : OfKind v Stays START
+  first-members : OfKind w v Stays START
   unfolding move
   first-members m t b e =
-      let x = start-facts v m t b e in
+      let x = start-facts w v m t b e in
       record { small = λ k here. omega (arith, ltb-true k m here); someone = λ q. (0, lt-ltb 0 m (x .some-member)) }
 
-  each-stays : EachKind v Stays
+  each-stays : EachKind w v Stays
   unfolding move
   each-stays = record {
     starts = first-members;
@@ -43,12 +43,12 @@ module _ (v : View) (p : Peopled v) where
   }
 
 -- every accepted step keeps it so
-pub peopled : (v : View) (s : Step) → refusal v s ≡ 0 → Peopled v → Peopled (move v s)
-peopled v s e p = byKind (each-stays v p) s e
+pub peopled : (w : ℕ) (v : View) (s : Step) → refusal w v s ≡ 0 → Peopled v → Peopled (move v s)
+peopled w v s e p = byKind (each-stays w v p) s e
 
 pub peopled-fresh : Peopled (account [])
 unfolding account
 peopled-fresh = record { small = λ k here. absurd (omega (arith, ltb-true k 0 here)); someone = λ q. absurd (false≢true q) }
 
-pub peopled-account : {h : List Step} → Accepted h → Peopled (account h)
-peopled-account = of-account Peopled peopled-fresh peopled
+pub peopled-account : {w : ℕ} {h : List Step} → Accepted w h → Peopled (account h)
+peopled-account {w} = of-account Peopled peopled-fresh (peopled w)

@@ -7,11 +7,12 @@ use Rattle.octets.proofs.RefusalLaws.{zero-none, look, clear, all-numbered}
 use Rattle.ledger.specs.declared.Step.{Step}
 use Rattle.ledger.specs.Rules.{View, refusals, refusal}
 
--- of a step that nothing refuses, no row applies
-pub none-applies : (v : View) (s : Step) → refusal v s ≡ 0 → NoneApplies (refusals v s)
-unfolding refusal
-none-applies v s e = zero-none (refusals v s) (all-numbered (refusals v s) refl) e
+module _ (w : ℕ) (v : View) (s : Step) where
+  -- of a step that nothing refuses, no row applies
+  pub none-applies : refusal w v s ≡ 0 → NoneApplies (refusals w v s)
+  unfolding refusal
+  none-applies e = zero-none (refusals w v s) (all-numbered (refusals w v s) refl) e
 
--- so the row of a number does not
-pub row : (v : View) (s : Step) → refusal v s ≡ 0 → (n : ℕ) → look n (refusals v s) ≡ false
-row v s e n = clear n (none-applies v s e)
+  -- so the row of a number does not
+  pub row : refusal w v s ≡ 0 → (n : ℕ) → look n (refusals w v s) ≡ false
+  row e n = clear n (none-applies e)

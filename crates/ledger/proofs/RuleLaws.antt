@@ -115,7 +115,7 @@ module _ (kind : ℕ) (zeros ones soon : Bool) where
 module _ (v : View) (m t : ℕ) (x : Secret) where
   -- those of a step of a kind
   abbrev from-4 : ℕ → ℕ
-  from-4 kind = first (drop 3 (refusals v (stepOf kind m t x)))
+  from-4 kind = first (drop 3 (refusals wait v (stepOf kind m t x)))
 
   starts : (kind : ℕ) → kind ≡ 0 → from-4 kind ≡ first (4 when v .started ∷ 7 when (eqb m 0 || ltb memberLimit m) ∷ [])
   starts kind e = rw e (rw (or-false (v .started), or-false (eqb m 0 || ltb memberLimit m)))
@@ -158,38 +158,38 @@ module _ (v : View) (m t : ℕ) (x : Secret) where
 module _ (v : View) (s : Step) where
   -- a step of a kind that there is, whose time is not refused
   module _ (known : s .kind ≤ 5) (soon : s .time ≤ latest) (later : v .last ≤ s .time) where
-    pub rest-rows : (k : ℕ) → k ≡ first (drop 3 (refusals v s)) → k ≡ refusal v s
+    pub rest-rows : (k : ℕ) → k ≡ first (drop 3 (refusals wait v s)) → k ≡ refusal wait v s
     unfolding refusal
     rest-rows k h = rw (le-ltb 5 (s .kind) known, le-ltb latest (s .time) soon, le-ltb (s .time) (v .last) later) h
 
-    pub start-rows : (k : ℕ) → s .kind ≡ 0 → k ≡ first (4 when v .started ∷ 7 when (eqb (s .member) 0 || ltb memberLimit (s .member)) ∷ []) → k ≡ refusal v s
+    pub start-rows : (k : ℕ) → s .kind ≡ 0 → k ≡ first (4 when v .started ∷ 7 when (eqb (s .member) 0 || ltb memberLimit (s .member)) ∷ []) → k ≡ refusal wait v s
     start-rows k e h = rest-rows k (h ∙ sym (starts v (s .member) (s .time) (s .secret) (s .kind) e))
 
-    pub open-rows : (k : ℕ) → s .kind ≡ 1 → k ≡ first (4 when v .rolling ∷ 5 when not (v .started) ∷ 6 when sameSecret (s .secret) (v .current) ∷ []) → k ≡ refusal v s
+    pub open-rows : (k : ℕ) → s .kind ≡ 1 → k ≡ first (4 when v .rolling ∷ 5 when not (v .started) ∷ 6 when sameSecret (s .secret) (v .current) ∷ []) → k ≡ refusal wait v s
     open-rows k e h = rest-rows k (h ∙ sym (opens v (s .member) (s .time) (s .secret) (s .kind) e))
 
   module _ (low : 2 ≤ s .kind) (high : s .kind ≤ 5) where
-    pub unstarted : not (v .started) ≡ true → 5 ≡ first (drop 3 (refusals v s))
+    pub unstarted : not (v .started) ≡ true → 5 ≡ first (drop 3 (refusals wait v s))
     unstarted h =
         let b = begin v (s .member) (s .time) (s .secret) (s .kind) low high in
         sym (b .1 ∙ rw h)
 
     module _ (began : not (v .started) ≡ false) where
-      pub unopened : not (v .rolling) ≡ true → 5 ≡ first (drop 3 (refusals v s))
+      pub unopened : not (v .rolling) ≡ true → 5 ≡ first (drop 3 (refusals wait v s))
       unopened h =
           let b = begin v (s .member) (s .time) (s .secret) (s .kind) low high in
           sym (b .1 ∙ rw (began, h))
 
       module _ (rolls : not (v .rolling) ≡ false) (r : Bool) (same : r ≡ sameSecret (s .secret) (v .new)) where
-        pub unnamed : not r ≡ true → 6 ≡ first (drop 3 (refusals v s))
+        pub unnamed : not r ≡ true → 6 ≡ first (drop 3 (refusals wait v s))
         unnamed h =
             let b = begin v (s .member) (s .time) (s .secret) (s .kind) low high in
             sym (b .1 ∙ rw (began, rolls, ← same, h))
 
         module _ (names : not r ≡ false) where
-          pub cancel-rows : (k : ℕ) → s .kind ≡ 5 → k ≡ first (9 when (anyAt v 2 || anyAt v 3) ∷ []) → k ≡ first (drop 3 (refusals v s))
+          pub cancel-rows : (k : ℕ) → s .kind ≡ 5 → k ≡ first (9 when (anyAt v 2 || anyAt v 3) ∷ []) → k ≡ first (drop 3 (refusals wait v s))
           cancel-rows k e h = h ∙ sym (cancels v (s .member) (s .time) (s .secret) (s .kind) e ∙ rw (began, rolls, ← same, names))
 
-          pub member-rows : (k : ℕ) → (s .kind ≡ 5 → ⊥) → k ≡ first (moving v (s .member) (s .time) (s .secret) (s .kind)) → k ≡ first (drop 3 (refusals v s))
+          pub member-rows : (k : ℕ) → (s .kind ≡ 5 → ⊥) → k ≡ first (moving v (s .member) (s .time) (s .secret) (s .kind)) → k ≡ first (drop 3 (refusals wait v s))
           member-rows k d h =
               h ∙ sym (moves v (s .member) (s .time) (s .secret) (s .kind) low (omega arith) ∙ rw (began, rolls, ← same, names))

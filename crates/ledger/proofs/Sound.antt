@@ -1,4 +1,4 @@
--- What every accepted step keeps of members and their stages, and the claim `EverybodyAccepts`. Assumes nothing.
+-- What every accepted step keeps of members and their stages, for every wait, and the claim `EverybodyAccepts`. Assumes nothing.
 use Prim.Native.Nat.{ℕ, zero, suc, _+_, _≤_}
 use mathlib.Core.Path.{_≡_, refl, sym, ap, subst}
 use mathlib.Core.Bool.{Bool, true, false, cond, _&&_}
@@ -16,7 +16,7 @@ use Rattle.ledger.specs.Account.{account}
 use Rattle.ledger.specs.Claims.{stepOf, StageByStage, Accepts, EverybodyAccepts}
 use Rattle.ledger.specs.Journal.{LEARN, SWITCH, DROP}
 use Rattle.ledger.specs.Ledger.{viewOf}
-use Rattle.ledger.specs.Rules.{View, refusal, wait, stageTable, secretsOf}
+use Rattle.ledger.specs.Rules.{View, refusal, stageTable, secretsOf}
 use Rattle.ledger.specs.Run.{ledgerAfter, history}
 use Rattle.ledger.proofs.EachKind.{OfKind, EachKind, byKind}
 use Rattle.ledger.proofs.Facts.{Small, Steps, not-shut, learn-facts, switch-facts, drop-facts, drop-waited, all-learnt, all-switched}
@@ -49,7 +49,7 @@ put-up f m n k up = go (placed f m n k)
 -- ---- stage by stage
 
 -- with all at 0
-pub at-zero : (v : View) → ((k : ℕ) → v .stage k ≡ 0) → StageByStage v
+pub at-zero : {w : ℕ} (v : View) → ((k : ℕ) → v .stage k ≡ 0) → StageByStage w v
 at-zero v z = record {
   at-rest = λ q. z;
   at-most = λ k. omega (arith, z k);
@@ -58,10 +58,10 @@ at-zero v z = record {
   waited = λ m _ far. absurd (omega (arith, z m));
 }
 
-module _ (v : View) (i : StageByStage v) where
+module _ {w : ℕ} (v : View) (i : StageByStage w v) where
   -- a member goes from the stage n to the next: all are at n or past it; from 2, after the wait
   module _ (s : Step) (n at : ℕ) (x : Steps v (s .member) n) (low : n ≤ 2) (gate : (k : ℕ) → v .present k ≡ true → n ≤ v .stage k)
-      (rest : 2 ≤ n → at + wait ≤ s .time) where
+      (rest : 2 ≤ n → at + w ≤ s .time) where
     abbrev after : ℕ → ℕ
     after = put (v .stage) (s .member) (suc n)
 
@@ -83,11 +83,11 @@ module _ (v : View) (i : StageByStage v) where
     switched m k hm hk (own p q) far = omega (arith, gate k hk, up k)
     switched m k hm hk (as-before q) far = omega (arith, i .switched m k hm hk (omega arith), up k)
 
-    waited : (m : ℕ) → v .present m ≡ true → At m → 3 ≤ after m → at + wait ≤ s .time
+    waited : (m : ℕ) → v .present m ≡ true → At m → 3 ≤ after m → at + w ≤ s .time
     waited m hm (own p q) far = rest (omega arith)
     waited m hm (as-before q) far = rest (omega (arith, i .switched m (s .member) hm (x .member) (omega arith), x .at))
 
-    stepped-on : StageByStage (steps v s (suc n) at)
+    stepped-on : StageByStage w (steps v s (suc n) at)
     stepped-on = record {
       at-rest = λ q. absurd (not-shut x q);
       at-most = λ k. three k (placed (v .stage) (s .member) (suc n) k);
@@ -98,25 +98,25 @@ module _ (v : View) (i : StageByStage v) where
 
   module _ (small : Small (v .present)) where
     abbrev Stays : Step → Type 0
-    Stays s = StageByStage (move v s)
+    Stays s = StageByStage w (move v s)
 
-    stays-learn : OfKind v Stays LEARN
+    stays-learn : OfKind w v Stays LEARN
     unfolding move
     stays-learn m t b e =
-        stepped-on (stepOf LEARN m t b) 0 (v .lastSwitch) (learn-facts v m t b e) (omega arith) (λ k here. omega arith) (λ far. absurd (omega arith))
+        stepped-on (stepOf LEARN m t b) 0 (v .lastSwitch) (learn-facts w v m t b e) (omega arith) (λ k here. omega arith) (λ far. absurd (omega arith))
 
-    stays-switch : OfKind v Stays SWITCH
+    stays-switch : OfKind w v Stays SWITCH
     unfolding move
     stays-switch m t b e =
-        stepped-on (stepOf SWITCH m t b) 1 t (switch-facts v m t b e) (omega arith) (all-learnt v small m t b e) (λ far. absurd (omega arith))
+        stepped-on (stepOf SWITCH m t b) 1 t (switch-facts w v m t b e) (omega arith) (all-learnt w v small m t b e) (λ far. absurd (omega arith))
 
-    stays-drop : OfKind v Stays DROP
+    stays-drop : OfKind w v Stays DROP
     stays-drop m t b e =
-        drop-either StageByStage v m t b (λ q. at-zero _ (λ k. refl))
+        drop-either (StageByStage w) v m t b (λ q. at-zero _ (λ k. refl))
         (λ q.
-        stepped-on (stepOf DROP m t b) 2 (v .lastSwitch) (drop-facts v m t b e) (omega arith) (all-switched v small m t b e) (λ far. drop-waited v m t b e))
+        stepped-on (stepOf DROP m t b) 2 (v .lastSwitch) (drop-facts w v m t b e) (omega arith) (all-switched w v small m t b e) (λ far. drop-waited w v m t b e))
 
-    each-stays : EachKind v Stays
+    each-stays : EachKind w v Stays
     unfolding move
     each-stays = record {
       starts = λ m t b e. at-zero _ (λ k. refl);
@@ -128,22 +128,22 @@ module _ (v : View) (i : StageByStage v) where
     }
 
 -- what holds of every ledger that accepted steps give
-pub record Sound (v : View) : Type 0 where
+pub record Sound (w : ℕ) (v : View) : Type 0 where
   pub people : Peopled v
-  pub stages : StageByStage v
+  pub stages : StageByStage w v
 
-pub sound : (v : View) (s : Step) → refusal v s ≡ 0 → Sound v → Sound (move v s)
-sound v s e i = record {
-  people = peopled v s e (i .people);
+pub sound : {w : ℕ} (v : View) (s : Step) → refusal w v s ≡ 0 → Sound w v → Sound w (move v s)
+sound {w} v s e i = record {
+  people = peopled w v s e (i .people);
   stages = byKind (each-stays v (i .stages) (i .people .small)) s e;
 }
 
-sound-fresh : Sound (account [])
+sound-fresh : {w : ℕ} → Sound w (account [])
 unfolding account
 sound-fresh = record { people = peopled-fresh; stages = at-zero _ (λ k. refl) }
 
-pub sound-account : {h : List Step} → Accepted h → Sound (account h)
-sound-account = of-account Sound sound-fresh sound
+pub sound-account : {w : ℕ} {h : List Step} → Accepted w h → Sound w (account h)
+sound-account {w} = of-account (Sound w) sound-fresh sound
 
 -- ---- who accepts what
 
@@ -171,7 +171,7 @@ holds v m held e = go (v .started) (v .present m) refl e
     go false d here e = let z : _≡_ {A = ℕ} 0 1 = cc in absurd (omega arith)
 
 -- everybody accepts what anybody makes with
-module _ (v : View) (i : StageByStage v) (m k : ℕ) (maker : v .present m ≡ true) (holder : v .present k ≡ true) where
+module _ {w : ℕ} (v : View) (i : StageByStage w v) (m k : ℕ) (maker : v .present m ≡ true) (holder : v .present k ≡ true) where
   -- where one makes with the current secret nobody has dropped it
   undropped : v .stage m ≤ 1 → v .stage k ≤ 2
   undropped low = go (leb (v .stage k) 2) refl
@@ -189,7 +189,7 @@ module _ (v : View) (i : StageByStage v) (m k : ℕ) (maker : v .present m ≡ t
       go (suc (suc zero)) at = accepts-new (v .stage k) (v .current) (v .new) (i .learnt m k maker holder (omega arith))
       go (suc (suc (suc n))) at = accepts-new (v .stage k) (v .current) (v .new) (i .learnt m k maker holder (omega arith))
 
-agreed : (v : View) → StageByStage v → (m k : ℕ) (makers others : Secrets) → secretsOf v m ≡ some makers → secretsOf v k ≡ some others
+agreed : {w : ℕ} (v : View) → StageByStage w v → (m k : ℕ) (makers others : Secrets) → secretsOf v m ≡ some makers → secretsOf v k ≡ some others
     → Accepts others (generatingOf makers)
 agreed v i m k makers others maker holder =
     let a = holds v m makers maker in
@@ -202,7 +202,11 @@ abbrev AllHold : View → Type 0
 AllHold v = (m : ℕ) → v .present m ≡ true → (held : Secrets) × (secretsOf v m ≡ some held)
 
 pub everybody-accepts : EverybodyAccepts
-everybody-accepts records =
-    let f = follows records in
-    let stages = subst StageByStage (sym (f .seen)) (sound-account (f .steps) .stages) in
-    record { stages = stages; holds = subst AllHold (sym (f .seen)) (member-holds (history records)); accepts = agreed (viewOf (ledgerAfter records)) stages }
+everybody-accepts w records =
+    let f = follows w records in
+    let stages = subst (StageByStage w) (sym (f .seen)) (sound-account (f .steps) .stages) in
+    record {
+      stages = stages;
+      holds = subst AllHold (sym (f .seen)) (member-holds (history w records));
+      accepts = agreed (viewOf (ledgerAfter w records)) stages;
+    }

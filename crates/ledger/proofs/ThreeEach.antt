@@ -1,5 +1,5 @@
--- The claim `ThreeStepsEach`: while a rollover is open, the member steps since its OPEN are the sum of the members' stages, and somebody is not yet at 3.
--- Assumes nothing.
+-- The claim `ThreeStepsEach`, for every wait: while a rollover is open, the member steps since its OPEN are the sum of the members' stages, and somebody is not yet
+-- at 3. Assumes nothing.
 use Prim.Native.Nat.{ℕ, zero, suc, _*_, _≤_, _<_}
 use mathlib.Core.Path.{_≡_, refl, sym, ap, subst, _∙_}
 use mathlib.Core.Bool.{Bool, true, false, not, cond, _&&_, true≢false, false≢true}
@@ -37,7 +37,7 @@ abbrev pub Tallied : View → ℕ → Type 0
 Tallied v n = v .rolling ≡ true → Tally v n
 
 -- so they are fewer than three for each
-pub fewer-than : (v : View) → Sound v → (n : ℕ) → Tally v n → n < 3 * heads v
+pub fewer-than : {w : ℕ} (v : View) → Sound w v → (n : ℕ) → Tally v n → n < 3 * heads v
 fewer-than v i n tally =
     let low = left (v .present) (v .stage) (i .stages .at-most) memberLimit in
     omega (arith, ltb-true (total memberLimit (v .present) (v .stage)) (3 * heads v) (sym low ∙ tally .some-left))
@@ -46,16 +46,16 @@ fewer-than v i n tally =
 
 -- a member step that shuts the rollover makes the new secret current
 abbrev Closing : View → View → Type 0
-Closing v w = w .rolling ≡ false → w .current ≡ v .new
+Closing v u = u .rolling ≡ false → u .current ≡ v .new
 
 -- only the last DROP shuts it
-each-closing : (v : View) → EachKind v (λ s. isMemberStep s ≡ true → Closing v (move v s))
+each-closing : {w : ℕ} (v : View) → EachKind w v (λ s. isMemberStep s ≡ true → Closing v (move v s))
 unfolding move
-each-closing v =
-    of-members (λ m t b e shut. absurd (not-shut (learn-facts v m t b e) shut)) (λ m t b e shut. absurd (not-shut (switch-facts v m t b e) shut))
-    (λ m t b e. drop-either (Closing v) v m t b (λ q shut. refl) (λ q shut. absurd (not-shut (drop-facts v m t b e) shut)))
+each-closing {w} v =
+    of-members (λ m t b e shut. absurd (not-shut (learn-facts w v m t b e) shut)) (λ m t b e shut. absurd (not-shut (switch-facts w v m t b e) shut))
+    (λ m t b e. drop-either (Closing v) v m t b (λ q shut. refl) (λ q shut. absurd (not-shut (drop-facts w v m t b e) shut)))
 
-module _ (v : View) (i : Sound v) (n : ℕ) (tally : Tallied v n) where
+module _ {w : ℕ} (v : View) (i : Sound w v) (n : ℕ) (tally : Tallied v n) where
   -- somebody is left where a member is not at 3
   somebody : (stage : ℕ → ℕ) (k : ℕ) → v .present k ≡ true → not (eqb (stage k) 3) ≡ true → unfinished (v .present) stage memberLimit ≡ true
   unfolding unfinished
@@ -91,33 +91,33 @@ module _ (v : View) (i : Sound v) (n : ℕ) (tally : Tallied v n) where
   abbrev Next : Step → Type 0
   Next s = move v s .rolling ≡ ltb (suc n) (3 * heads v)
 
-  next-learn : OfKind v Next LEARN
+  next-learn : OfKind w v Next LEARN
   unfolding move
-  next-learn m t b e = let x = learn-facts v m t b e in x .rolling ∙ sym (itself m 0 (omega arith) x refl) ∙ left-after m 0 (omega arith) x
+  next-learn m t b e = let x = learn-facts w v m t b e in x .rolling ∙ sym (itself m 0 (omega arith) x refl) ∙ left-after m 0 (omega arith) x
 
-  next-switch : OfKind v Next SWITCH
+  next-switch : OfKind w v Next SWITCH
   unfolding move
-  next-switch m t b e = let x = switch-facts v m t b e in x .rolling ∙ sym (itself m 1 (omega arith) x refl) ∙ left-after m 1 (omega arith) x
+  next-switch m t b e = let x = switch-facts w v m t b e in x .rolling ∙ sym (itself m 1 (omega arith) x refl) ∙ left-after m 1 (omega arith) x
 
-  next-drop : OfKind v Next DROP
+  next-drop : OfKind w v Next DROP
   unfolding unfinished
   next-drop m t b e =
-      let x = drop-facts v m t b e in
+      let x = drop-facts w v m t b e in
       let all = left-after m 2 (omega arith) x in
-      drop-either (λ (w : View). w .rolling ≡ ltb (suc n) (3 * heads v)) v m t b (λ q. sym (not-true _ q) ∙ all) (λ q. x .rolling ∙ sym (not-false _ q) ∙ all)
+      drop-either (λ (u : View). u .rolling ≡ ltb (suc n) (3 * heads v)) v m t b (λ q. sym (not-true _ q) ∙ all) (λ q. x .rolling ∙ sym (not-false _ q) ∙ all)
 
-  each-next : EachKind v (λ s. isMemberStep s ≡ true → Next s)
+  each-next : EachKind w v (λ s. isMemberStep s ≡ true → Next s)
   each-next = of-members next-learn next-switch next-drop
 
   -- while it is open nothing else is accepted but a CANCEL, which leaves the current secret
   abbrev Other : Step → Type 0
   Other s = v .rolling ≡ true → isMemberStep s ≡ false → (is CANCEL s ≡ true) × (move v s .rolling ≡ false) × (move v s .current ≡ v .current)
 
-  each-other : EachKind v Other
+  each-other : EachKind w v Other
   unfolding move
   each-other = record {
-    starts = λ m t b e o is. absurd (true≢false (sym (tally o .begun) ∙ start-facts v m t b e .unstarted));
-    opens = λ m t b e o is. absurd (true≢false (sym o ∙ open-facts v m t b e .shut));
+    starts = λ m t b e o is. absurd (true≢false (sym (tally o .begun) ∙ start-facts w v m t b e .unstarted));
+    opens = λ m t b e o is. absurd (true≢false (sym o ∙ open-facts w v m t b e .shut));
     learns = λ m t b e o is. absurd (true≢false is);
     switches = λ m t b e o is. absurd (true≢false is);
     drops = λ m t b e o is. absurd (true≢false is);
@@ -128,33 +128,33 @@ module _ (v : View) (i : Sound v) (n : ℕ) (tally : Tallied v n) where
   abbrev Tallies : Step → Type 0
   Tallies s = Tallied (move v s) (cond (leb (s .kind) OPEN) 0 (cond (isMemberStep s) (suc n) n))
 
-  tally-open : OfKind v Tallies OPEN
+  tally-open : OfKind w v Tallies OPEN
   unfolding move
   tally-open m t b e o =
-      let begun = open-facts v m t b e .begun in
+      let begun = open-facts w v m t b e .begun in
       let who = i .people .someone begun in
       record { begun = begun; taken = total-zero (v .present) memberLimit; some-left = somebody (λ k. 0) (who .0) (who .1) refl }
 
-  tally-learn : OfKind v Tallies LEARN
+  tally-learn : OfKind w v Tallies LEARN
   unfolding move
   tally-learn m t b e o =
-      let x = learn-facts v m t b e in
+      let x = learn-facts w v m t b e in
       record { begun = x .begun; taken = raised m 0 (omega arith) x; some-left = itself m 0 (omega arith) x refl }
 
-  tally-switch : OfKind v Tallies SWITCH
+  tally-switch : OfKind w v Tallies SWITCH
   unfolding move
   tally-switch m t b e o =
-      let x = switch-facts v m t b e in
+      let x = switch-facts w v m t b e in
       record { begun = x .begun; taken = raised m 1 (omega arith) x; some-left = itself m 1 (omega arith) x refl }
 
-  tally-drop : OfKind v Tallies DROP
+  tally-drop : OfKind w v Tallies DROP
   unfolding unfinished
   tally-drop m t b e =
-      let x = drop-facts v m t b e in
-      drop-either (λ (w : View). Tallied w (suc n)) v m t b (λ q o. absurd (false≢true o))
+      let x = drop-facts w v m t b e in
+      drop-either (λ (u : View). Tallied u (suc n)) v m t b (λ q o. absurd (false≢true o))
       (λ q o. record { begun = x .begun; taken = raised m 2 (omega arith) x; some-left = not-false _ q })
 
-  each-tallies : EachKind v Tallies
+  each-tallies : EachKind w v Tallies
   unfolding move
   each-tallies = record {
     starts = λ m t b e o. absurd (false≢true o);
@@ -171,10 +171,10 @@ none-open : Tallied (account []) 0
 unfolding account
 none-open o = absurd (false≢true o)
 
-pub tallied : {h : List Step} → Accepted h → Tallied (account h) (memberSteps h)
+pub tallied : {w : ℕ} {h : List Step} → Accepted w h → Tallied (account h) (memberSteps h)
 tallied nothing-yet = none-open
-tallied (and-then {h = h} s a e) =
-    subst (λ (v : View). Tallied v (memberSteps (s ∷ h))) (sym (account-move h s e))
+tallied {w} (and-then {h = h} s a e) =
+    subst (λ (v : View). Tallied v (memberSteps (s ∷ h))) (sym (account-move w h s e))
     (byKind (each-tallies (account h) (sound-account a) (memberSteps h) (tallied a)) s e)
 
 -- the count is how many members there are
@@ -182,59 +182,59 @@ room : (n : ℕ) → Small (λ k. ltb k n) → n ≤ memberLimit
 room zero small = omega arith
 room (suc n) small = small n (lt-ltb n (suc n) (omega arith))
 
-counted : (h : List Step) → Sound (account h) → heads (account h) ≡ countBy h
+counted : {w : ℕ} (h : List Step) → Sound w (account h) → heads (account h) ≡ countBy h
 unfolding account
 counted h i = omega (arith, count-numbers memberLimit (countBy h), room (countBy h) (i .people .small))
 
 -- ---- the claim
 
-module _ (records : List (List ℕ)) where
+module _ (w : ℕ) (records : List (List ℕ)) where
   abbrev h : List Step
-  h = history records
+  h = history w records
 
   abbrev l : Ledger
-  l = ledgerAfter records
+  l = ledgerAfter w records
 
-  i : Sound (account h)
-  i = sound-account (follows records .steps)
+  i : Sound w (account h)
+  i = sound-account (follows w records .steps)
 
   tally : Tallied (account h) (memberSteps h)
-  tally = tallied (follows records .steps)
+  tally = tallied (follows w records .steps)
 
   -- what is seen of the ledger, by the account
   rolls : l .rolling ≡ true → account h .rolling ≡ true
-  rolls o = sym (ap (λ (v : View). v .rolling) (follows records .seen)) ∙ o
+  rolls o = sym (ap (λ (v : View). v .rolling) (follows w records .seen)) ∙ o
 
   fewer : l .rolling ≡ true → memberSteps h < 3 * countBy h
   fewer o = rw (counted h i) at (fewer-than (account h) i (memberSteps h) (tally (rolls o)))
 
-  module _ (bytes : List ℕ) (e : offered l bytes .answer ≡ 0) where
+  module _ (bytes : List ℕ) (e : offered w l bytes .answer ≡ 0) where
     abbrev s : Step
     s = readStep bytes
 
-    passes : refusal (account h) s ≡ 0
-    passes = sym (answer-by-account records bytes) ∙ e
+    passes : refusal w (account h) s ≡ 0
+    passes = sym (answer-by-account w records bytes) ∙ e
 
-    rolls-on : offered l bytes .ledger .rolling ≡ move (account h) s .rolling
-    rolls-on = ap (λ (v : View). v .rolling) (next-view records bytes e)
+    rolls-on : offered w l bytes .ledger .rolling ≡ move (account h) s .rolling
+    rolls-on = ap (λ (v : View). v .rolling) (next-view w records bytes e)
 
-    current-on : offered l bytes .ledger .current ≡ move (account h) s .current
-    current-on = ap (λ (v : View). v .current) (next-view records bytes e)
+    current-on : offered w l bytes .ledger .current ≡ move (account h) s .current
+    current-on = ap (λ (v : View). v .current) (next-view w records bytes e)
 
-    next : isMemberStep s ≡ true → offered l bytes .ledger .rolling ≡ ltb (suc (memberSteps h)) (3 * countBy h)
+    next : isMemberStep s ≡ true → offered w l bytes .ledger .rolling ≡ ltb (suc (memberSteps h)) (3 * countBy h)
     next is =
         rolls-on ∙ byKind (each-next (account h) i (memberSteps h) tally) s passes is
         ∙ ap (λ (n : ℕ). ltb (suc (memberSteps h)) (3 * n)) (counted h i)
 
-    closing : isMemberStep s ≡ true → offered l bytes .ledger .rolling ≡ false → offered l bytes .ledger .current ≡ l .new
+    closing : isMemberStep s ≡ true → offered w l bytes .ledger .rolling ≡ false → offered w l bytes .ledger .current ≡ l .new
     closing is shut =
-        current-on ∙ byKind (each-closing (account h)) s passes is (sym rolls-on ∙ shut) ∙ sym (ap (λ (v : View). v .new) (follows records .seen))
+        current-on ∙ byKind (each-closing (account h)) s passes is (sym rolls-on ∙ shut) ∙ sym (ap (λ (v : View). v .new) (follows w records .seen))
 
     other : l .rolling ≡ true → isMemberStep s ≡ false
-        → (is CANCEL s ≡ true) × (offered l bytes .ledger .rolling ≡ false) × (offered l bytes .ledger .current ≡ l .current)
+        → (is CANCEL s ≡ true) × (offered w l bytes .ledger .rolling ≡ false) × (offered w l bytes .ledger .current ≡ l .current)
     other o is =
         let x = byKind (each-other (account h) i (memberSteps h) tally) s passes (rolls o) is in
-        (x .0, rolls-on ∙ x .1, current-on ∙ x .2 ∙ sym (ap (λ (v : View). v .current) (follows records .seen)))
+        (x .0, rolls-on ∙ x .1, current-on ∙ x .2 ∙ sym (ap (λ (v : View). v .current) (follows w records .seen)))
 
 pub three-steps-each : ThreeStepsEach
-three-steps-each records = record { fewer = fewer records; next = next records; closing = closing records; other = other records }
+three-steps-each w records = record { fewer = fewer w records; next = next w records; closing = closing w records; other = other w records }

@@ -1,5 +1,5 @@
 -- Cases that pin the definitions of this crate: small journals with document 01's answers, its sample journal, rows that win over others, each line of the stage table, and whole
--- ledgers field by field. A, B and C are document 01's secrets. Assumes nothing.
+-- ledgers field by field. The wait is document 01's, and A, B and C are its secrets. Assumes nothing.
 use Prim.Native.Nat.{ℕ}
 use mathlib.Core.Path.{_≡_}
 use mathlib.Core.Bool.{Bool, true, false, cond}
@@ -21,7 +21,7 @@ use Rattle.ledger.specs.Account.{account}
 use Rattle.ledger.specs.Answers.{refusalNumber, answerNumber, heldOf}
 use Rattle.ledger.specs.Claims.{memberSteps}
 use Rattle.ledger.specs.Journal.{readStep, START, OPEN, LEARN, SWITCH, DROP, CANCEL}
-use Rattle.ledger.specs.Rules.{View, refusal, stageTable, secretsOf}
+use Rattle.ledger.specs.Rules.{View, wait, refusal, stageTable, secretsOf}
 use Rattle.ledger.specs.Run.{run, offered, ledgerAfter, history}
 use Rattle.ledger.specs.Ledger.{freshLedger, viewOf}
 
@@ -69,15 +69,15 @@ sB = alike 0x2222222222222222
 
 -- the answers to records offered to a fresh ledger
 unfoldable pub answers : List (List ℕ) → List ℕ
-answers records = map (λ e. e .answer) (run freshLedger records)
+answers records = map (λ e. e .answer) (run wait freshLedger records)
 
 -- the answers to records that are each offered by themselves to a ledger
 unfoldable pub answersOn : Ledger → List (List ℕ) → List ℕ
-answersOn l records = map (λ r. offered l r .answer) records
+answersOn l records = map (λ r. offered wait l r .answer) records
 
 -- the same after a journal
 unfoldable pub each : List (List ℕ) → List (List ℕ) → List ℕ
-each before records = answersOn (ledgerAfter before) records
+each before records = answersOn (ledgerAfter wait before) records
 
 -- ---- records
 
@@ -188,8 +188,8 @@ pub record OthersHold : Type 0 where
   pub last-learns : answersOn (whole true true sA sB 0xffffffff 0x7fffffff 0 0 0 0) (entry SWITCH 0 0 B ∷ entry SWITCH 31 0 B ∷ entry LEARN 31 0 B ∷ entry CANCEL 0 0 B ∷ []) ≡ 9 ∷ 8 ∷ 0 ∷ 0 ∷ []
   pub last-switches : answersOn (whole true true sA sB 0xffffffff 0xffffffff 0x7fffffff 0 0 0) (entry DROP 0 3601 B ∷ entry DROP 31 3601 B ∷ entry SWITCH 31 3601 B ∷ []) ≡ 9 ∷ 8 ∷ 0 ∷ []
   pub last-alone : answersOn (whole true true sA sB 0xffffffff 0xffffffff 0x80000000 0 0 0) (entry CANCEL 0 0 B ∷ []) ≡ 9 ∷ []
-  pub last-drops : offered (whole true true sA sB 0xffffffff 0xffffffff 0xffffffff 0x7fffffff 3601 0) (entry DROP 31 3601 B) .ledger ≡ whole true false sB sNone 0xffffffff 0 0 0 3601 0
-  pub not-last : offered (whole true true sA sB 0xffffffff 0xffffffff 0xffffffff 0x7ffffffe 3601 0) (entry DROP 31 3601 B) .ledger
+  pub last-drops : offered wait (whole true true sA sB 0xffffffff 0xffffffff 0xffffffff 0x7fffffff 3601 0) (entry DROP 31 3601 B) .ledger ≡ whole true false sB sNone 0xffffffff 0 0 0 3601 0
+  pub not-last : offered wait (whole true true sA sB 0xffffffff 0xffffffff 0xffffffff 0x7ffffffe 3601 0) (entry DROP 31 3601 B) .ledger
       ≡ whole true true sA sB 0xffffffff 0xffffffff 0xffffffff 0xfffffffe 3601 0
 
 -- rows 8 and 9 for two members at every two stages, whether steps can give them or not: the first is at 0 in the first four, at 1 in the next, and so on
@@ -200,7 +200,7 @@ two a b = record { started = true; present = λ m. ltb m 2; current = sA; rollin
 unfoldable pub atEach : ℕ → List ℕ
 atEach kind =
     let s : Step = record { kind = kind; member = 0; time = 3601; secret = sB } in
-    map (λ v. refusal v s) (two 0 0 ∷ two 0 1 ∷ two 0 2 ∷ two 0 3 ∷ two 1 0 ∷ two 1 1 ∷ two 1 2 ∷ two 1 3 ∷ two 2 0 ∷ two 2 1 ∷ two 2 2 ∷ two 2 3 ∷ two 3 0 ∷ two 3 1 ∷ two 3 2 ∷ two 3 3 ∷ [])
+    map (λ v. refusal wait v s) (two 0 0 ∷ two 0 1 ∷ two 0 2 ∷ two 0 3 ∷ two 1 0 ∷ two 1 1 ∷ two 1 2 ∷ two 1 3 ∷ two 2 0 ∷ two 2 1 ∷ two 2 2 ∷ two 2 3 ∷ two 3 0 ∷ two 3 1 ∷ two 3 2 ∷ two 3 3 ∷ [])
 
 pub record StagesHold : Type 0 where
   pub learns : atEach LEARN ≡ 0 ∷ 0 ∷ 0 ∷ 0 ∷ 8 ∷ 8 ∷ 8 ∷ 8 ∷ 8 ∷ 8 ∷ 8 ∷ 8 ∷ 8 ∷ 8 ∷ 8 ∷ 8 ∷ []
@@ -212,7 +212,7 @@ pub record StagesHold : Type 0 where
 
 -- the secrets of the members 0, 1 and 2 after a journal
 unfoldable pub held : List (List ℕ) → List (Option Secrets)
-held records = map (secretsOf (viewOf (ledgerAfter records))) (0 ∷ 1 ∷ 2 ∷ [])
+held records = map (secretsOf (viewOf (ledgerAfter wait records))) (0 ∷ 1 ∷ 2 ∷ [])
 
 pub record SecretsHold : Type 0 where
   pub fresh : held [] ≡ none ∷ none ∷ none ∷ []
@@ -222,8 +222,8 @@ pub record SecretsHold : Type 0 where
   pub stage-2 : held switching ≡ some (Two sB sA) ∷ some (Two sA sB) ∷ none ∷ []
   pub stage-3 : held dropping ≡ some (One sB) ∷ some (Two sB sA) ∷ none ∷ []
   pub closed-again : held closed ≡ some (One sB) ∷ some (One sB) ∷ none ∷ []
-  pub past : map (secretsOf (viewOf (ledgerAfter begun))) (31 ∷ 32 ∷ 255 ∷ []) ≡ none ∷ none ∷ none ∷ []
-  pub last : map (secretsOf (viewOf (ledgerAfter (entry START 32 0 A ∷ [])))) (31 ∷ 32 ∷ []) ≡ some (One sA) ∷ none ∷ []
+  pub past : map (secretsOf (viewOf (ledgerAfter wait begun))) (31 ∷ 32 ∷ 255 ∷ []) ≡ none ∷ none ∷ none ∷ []
+  pub last : map (secretsOf (viewOf (ledgerAfter wait (entry START 32 0 A ∷ [])))) (31 ∷ 32 ∷ []) ≡ some (One sA) ∷ none ∷ []
   pub learnt-both : held learnt ≡ some (Two sA sB) ∷ some (Two sA sB) ∷ none ∷ []
   pub cancelled : held (learnt ++ (entry CANCEL 7 1500 B ∷ [])) ≡ some (One sA) ∷ some (One sA) ∷ none ∷ []
   pub second : held (closed ++ (entry OPEN 0 4700 A ∷ entry LEARN 0 4700 A ∷ [])) ≡ some (Two sB sA) ∷ some (One sB) ∷ none ∷ []
@@ -244,17 +244,17 @@ sample =
 pub record JournalsHold : Type 0 where
   pub sampled : answers sample ≡ 0 ∷ 0 ∷ 4 ∷ 0 ∷ 9 ∷ 0 ∷ 0 ∷ 0 ∷ 10 ∷ 0 ∷ 0 ∷ []
   -- the ledger after each accepted step, field by field
-  pub at-first : ledgerAfter [] ≡ whole false false sNone sNone 0 0 0 0 0 0
-  pub at-start : ledgerAfter begun ≡ whole true false sA sNone 3 0 0 0 1000 0
-  pub at-open : ledgerAfter opened ≡ whole true true sA sB 3 0 0 0 1010 0
-  pub at-learn : ledgerAfter learning ≡ whole true true sA sB 3 1 0 0 1020 0
-  pub at-switch : ledgerAfter switching ≡ whole true true sA sB 3 3 1 0 1030 1030
-  pub at-last-switch : ledgerAfter switched ≡ whole true true sA sB 3 3 3 0 1040 1040
-  pub at-drop : ledgerAfter dropping ≡ whole true true sA sB 3 3 3 1 4641 1040
-  pub at-close : ledgerAfter closed ≡ whole true false sB sNone 3 0 0 0 4641 1040
-  pub at-cancel : ledgerAfter (learnt ++ (entry CANCEL 7 1500 B ∷ [])) ≡ whole true false sA sNone 3 0 0 0 1500 0
+  pub at-first : ledgerAfter wait [] ≡ whole false false sNone sNone 0 0 0 0 0 0
+  pub at-start : ledgerAfter wait begun ≡ whole true false sA sNone 3 0 0 0 1000 0
+  pub at-open : ledgerAfter wait opened ≡ whole true true sA sB 3 0 0 0 1010 0
+  pub at-learn : ledgerAfter wait learning ≡ whole true true sA sB 3 1 0 0 1020 0
+  pub at-switch : ledgerAfter wait switching ≡ whole true true sA sB 3 3 1 0 1030 1030
+  pub at-last-switch : ledgerAfter wait switched ≡ whole true true sA sB 3 3 3 0 1040 1040
+  pub at-drop : ledgerAfter wait dropping ≡ whole true true sA sB 3 3 3 1 4641 1040
+  pub at-close : ledgerAfter wait closed ≡ whole true false sB sNone 3 0 0 0 4641 1040
+  pub at-cancel : ledgerAfter wait (learnt ++ (entry CANCEL 7 1500 B ∷ [])) ≡ whole true false sA sNone 3 0 0 0 1500 0
   -- a refusal leaves it as it was, its last time too
-  pub refused : ledgerAfter (begun ++ (entry LEARN 0 5000 B ∷ entry START 9 5000 C ∷ entry OPEN 0 281474976710656 B ∷ [])) ≡ ledgerAfter begun
+  pub refused : ledgerAfter wait (begun ++ (entry LEARN 0 5000 B ∷ entry START 9 5000 C ∷ entry OPEN 0 281474976710656 B ∷ [])) ≡ ledgerAfter wait begun
   -- after a refused step of a later time an earlier one is accepted; after a CANCEL all begin again; an earlier secret may come back; two rollovers
   pub later-refused : answers (entry START 2 1000 A ∷ entry LEARN 0 5000 B ∷ entry OPEN 0 1500 B ∷ []) ≡ 0 ∷ 5 ∷ 0 ∷ []
   pub cancelled : answers (learning ++ (entry CANCEL 0 1030 B ∷ entry LEARN 1 1030 B ∷ entry OPEN 0 1030 C ∷ entry LEARN 0 1030 B ∷ entry LEARN 0 1030 C ∷ entry SWITCH 0 1030 C ∷ []))
@@ -314,9 +314,9 @@ abbrev pub pair : List Bool
 pair = true ∷ true ∷ false ∷ []
 
 pub record AccountsHold : Type 0 where
-  pub none-yet : history [] ≡ []
-  pub sampled : history sample ≡ sampleSteps
-  pub with-cancel : history (learnt ++ (entry CANCEL 7 1500 B ∷ [])) ≡ step 5 7 1500 sB ∷ step 2 1 1021 sB ∷ step 2 0 1020 sB ∷ step 1 0 1010 sB ∷ step 0 2 1000 sA ∷ []
+  pub none-yet : history wait [] ≡ []
+  pub sampled : history wait sample ≡ sampleSteps
+  pub with-cancel : history wait (learnt ++ (entry CANCEL 7 1500 B ∷ [])) ≡ step 5 7 1500 sB ∷ step 2 1 1021 sB ∷ step 2 0 1020 sB ∷ step 1 0 1010 sB ∷ step 0 2 1000 sA ∷ []
   pub at-first : summary [] ≡ summed false false sNone sNone 0 0 (false ∷ false ∷ false ∷ []) (0 ∷ 0 ∷ [])
   pub at-close : summary sampleSteps ≡ summed true false sB sNone 4651 1050 pair (0 ∷ 0 ∷ [])
   pub before-close : summary (step 4 0 4651 sB ∷ step 3 0 1050 sB ∷ step 3 1 1040 sB ∷ step 2 1 1030 sB ∷ step 2 0 1020 sB ∷ step 1 0 1010 sB ∷ step 0 2 1000 sA ∷ [])

@@ -118,6 +118,6 @@ abbrev pub outcome : ℕ → Ledger → Step → Outcome
 outcome zero l s = 0 leaving accept l s
 outcome (suc n) l s = suc n leaving l
 
--- a step, by the refusal that the rules give for what is seen of the ledger
-unfoldable pub stepped : Ledger → Step → Outcome
-stepped l s = outcome (refusal (viewOf l) s) l s
+-- a step, by the refusal that the rules, with a wait, give for what is seen of the ledger
+unfoldable pub stepped : ℕ → Ledger → Step → Outcome
+stepped w l s = outcome (refusal w (viewOf l) s) l s

@@ -37,7 +37,7 @@ noSecret = record { k0 = 0; k1 = 0 }
 abbrev pub latest : ℕ
 latest = 281474976710655
 
--- a DROP is refused before the last accepted SWITCH plus this
+-- a DROP is refused before the last accepted SWITCH plus this. The rules take it as an argument, so that claims can speak of every wait
 abbrev pub wait : ℕ
 wait = 3601
 
@@ -47,24 +47,26 @@ anyAt v k = stages.anyAt (v .present) (v .stage) k
 
 -- ---- the table of refusals
 
--- a row for each row of document 01's table, in the order of the checks
-abbrev pub refusals : View → Step → List Row
-refusals v s =
-    1 when ltb CANCEL (s .kind)
-    ∷ 2 when ltb latest (s .time)
-    ∷ 3 when ltb (s .time) (v .last)
-    ∷ 4 when (is START s && v .started || is OPEN s && v .rolling)
-    ∷ 5 when (isFrom OPEN CANCEL s && not (v .started) || isFrom LEARN CANCEL s && not (v .rolling))
-    ∷ 6 when (is OPEN s && sameSecret (s .secret) (v .current) || isFrom LEARN CANCEL s && not (sameSecret (s .secret) (v .new)))
-    ∷ 7 when (is START s && (eqb (s .member) 0 || ltb memberLimit (s .member)) || isMemberStep s && not (v .present (s .member)))
-    ∷ 8 when (isMemberStep s && not (eqb (v .stage (s .member)) (s .kind - LEARN)))
-    ∷ 9 when (is SWITCH s && anyAt v 0 || is DROP s && (anyAt v 0 || anyAt v 1) || is CANCEL s && (anyAt v 2 || anyAt v 3))
-    ∷ 10 when (is DROP s && ltb (s .time) (v .lastSwitch + wait))
-    ∷ []
+-- with a wait
+module _ (w : ℕ) where
+  -- a row for each row of document 01's table, in the order of the checks
+  abbrev pub refusals : View → Step → List Row
+  refusals v s =
+      1 when ltb CANCEL (s .kind)
+      ∷ 2 when ltb latest (s .time)
+      ∷ 3 when ltb (s .time) (v .last)
+      ∷ 4 when (is START s && v .started || is OPEN s && v .rolling)
+      ∷ 5 when (isFrom OPEN CANCEL s && not (v .started) || isFrom LEARN CANCEL s && not (v .rolling))
+      ∷ 6 when (is OPEN s && sameSecret (s .secret) (v .current) || isFrom LEARN CANCEL s && not (sameSecret (s .secret) (v .new)))
+      ∷ 7 when (is START s && (eqb (s .member) 0 || ltb memberLimit (s .member)) || isMemberStep s && not (v .present (s .member)))
+      ∷ 8 when (isMemberStep s && not (eqb (v .stage (s .member)) (s .kind - LEARN)))
+      ∷ 9 when (is SWITCH s && anyAt v 0 || is DROP s && (anyAt v 0 || anyAt v 1) || is CANCEL s && (anyAt v 2 || anyAt v 3))
+      ∷ 10 when (is DROP s && ltb (s .time) (v .lastSwitch + w))
+      ∷ []
 
--- the number of the refusal, 0 for a step that is accepted
-unfoldable pub refusal : View → Step → ℕ
-refusal v s = first (refusals v s)
+  -- the number of the refusal, 0 for a step that is accepted
+  unfoldable pub refusal : View → Step → ℕ
+  refusal v s = first (refusals v s)
 
 -- ---- the stage table
 

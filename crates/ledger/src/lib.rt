@@ -8,7 +8,7 @@ ghost use mathlib.Core.Path.{_≡_};
 ghost use Rattle.ledger.specs.Answers.{answerNumber, heldOf};
 ghost use Rattle.ledger.specs.Journal.{readStep};
 ghost use Rattle.ledger.specs.Ledger.{viewOf, freshLedger, _leaving_, stepped};
-ghost use Rattle.ledger.specs.Rules.{secretsOf};
+ghost use Rattle.ledger.specs.Rules.{wait, secretsOf};
 
 mod journal;
 mod moves;
@@ -131,7 +131,7 @@ impl Ledger {
 
     // A record of the journal on a ledger. A refusal leaves the ledger as it was.
     pub fn step(self, bytes: &[u8; 32]) -> Stepped
-        ensures { λ r. ⌜ answerNumber (r .answer) leaving r .ledger ≡ stepped self (readStep (now (bytes .entry))) ⌝ }
+        ensures { λ r. ⌜ answerNumber (r .answer) leaving r .ledger ≡ stepped wait self (readStep (now (bytes .entry))) ⌝ }
     {
         let s = journal::read(bytes);
         match rules::check(self, s) {

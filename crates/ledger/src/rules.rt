@@ -105,7 +105,7 @@ fn check_member(kind: u8, member: u8, time: u64, stages: Stages, switch: u64) ->
 fn check_rolling(l: Ledger, s: Step) -> Answer
     requires { ⌜ 2 ≤ s .kind ⌝ }
     requires { ⌜ s .kind ≤ 5 ⌝ }
-    ensures { λ r. ⌜ answerNumber r ≡ first (drop 3 (refusals (viewOf l) s)) ⌝ }
+    ensures { λ r. ⌜ answerNumber r ≡ first (drop 3 (refusals wait (viewOf l) s)) ⌝ }
 {
     let secret = s.secret;
     let new = l.new;
@@ -127,7 +127,7 @@ fn check_rolling(l: Ledger, s: Step) -> Answer
 
 // The first row that applies.
 pub fn check(l: Ledger, s: Step) -> Answer
-    ensures { λ r. ⌜ answerNumber r ≡ refusal (viewOf l) s ⌝ }
+    ensures { λ r. ⌜ answerNumber r ≡ refusal wait (viewOf l) s ⌝ }
 {
     let secret = s.secret;
     let current = l.current;

@@ -21,6 +21,7 @@ use Rattle.ledger.specs.declared.Ledger.{Ledger}
 use Rattle.ledger.specs.declared.Stepped.{Stepped}
 use Rattle.ledger.specs.Journal.{readStep}
 use Rattle.ledger.specs.Ledger.{freshLedger, Outcome, _leaving_, stepped}
+use Rattle.ledger.specs.Rules.{wait}
 use Rattle.ledger.specs.Run.{offered}
 use Rattle.rows.proofs.RowLaws.{placed-room, row-fits}
 use Rattle.rows.specs.declared.Row.{Row}
@@ -44,14 +45,14 @@ put-whole buffer run e =
 -- the record at a place, copied into one of its own
 pub record-at : (l : Ledger) (r : Stepped) (buffer bytes block : List ℕ) (start : ℕ) → length buffer ≡ 32
     → bytes ≡ written buffer 0 (take (start + 32 - start) (drop start block))
-    → answerNumber (r .answer) leaving r .ledger ≡ stepped l (readStep bytes)
+    → answerNumber (r .answer) leaving r .ledger ≡ stepped wait l (readStep bytes)
     → start + 32 ≤ length block
-    → answerNumber (r .answer) leaving r .ledger ≡ offered l (take 32 (drop start block))
+    → answerNumber (r .answer) leaving r .ledger ≡ offered wait l (take 32 (drop start block))
 record-at l r buffer bytes block start b w e within =
     let run = take 32 (drop start block) in
     let long : length run ≡ 32 = length-take-le 32 (drop start block) (omega (arith, length-drop start block)) in
     let size : start + 32 - start ≡ 32 = omega arith in
-    e ∙ ap (λ (x : List ℕ). offered l x) (w ∙ ap (λ (k : ℕ). written buffer 0 (take k (drop start block))) size ∙ put-whole buffer run (b ∙ sym long))
+    e ∙ ap (λ (x : List ℕ). offered wait l x) (w ∙ ap (λ (k : ℕ). written buffer 0 (take k (drop start block))) size ∙ put-whole buffer run (b ∙ sym long))
 
 -- how many members are at a stage is a number of 8 bits
 pub count-fits : (r : ℕ) (present : ℕ → Bool) (stage : ℕ → ℕ) (k : ℕ) → r ≡ countAt present stage k → r < 256
@@ -80,14 +81,14 @@ head-same (x ∷ xs) = refl
 first-byte : (block : List ℕ) (start : ℕ) → getD block start 0 ≡ getD (take 32 (drop start block)) 0 0
 first-byte block start = ap (λ (k : ℕ). getD block k 0) (sym (add-zero start)) ∙ sym (getD-drop start block 0 0) ∙ head-same (drop start block)
 
-row-of-same : (before : Lister) (bytes : List ℕ) (number kind : ℕ) (o : Outcome) → number ≡ (before .number + 1) % 2 ^ 64 → kind ≡ getD bytes 0 0 → o ≡ offered (before .ledger) bytes
+row-of-same : (before : Lister) (bytes : List ℕ) (number kind : ℕ) (o : Outcome) → number ≡ (before .number + 1) % 2 ^ 64 → kind ≡ getD bytes 0 0 → o ≡ offered wait (before .ledger) bytes
     → rowAfter number kind o ≡ rowOf before bytes
 unfolding rowOf
 row-of-same before bytes number kind o n k e = λ i. rowAfter (n i) (k i) (e i)
 
 -- the record listed: the ledger that its step left, the number after, and its line
 pub put-is : (before : Lister) (s : Stepped) (row : Row) (block output now : List ℕ) (start at end number answer kind : ℕ)
-    → answerNumber (s .answer) leaving s .ledger ≡ offered (before .ledger) (take 32 (drop start block))
+    → answerNumber (s .answer) leaving s .ledger ≡ offered wait (before .ledger) (take 32 (drop start block))
     → start + 32 ≤ length block
     → number ≡ (before .number + 1) % 2 ^ 64
     → answer ≡ answerNumber (s .answer)
@@ -97,7 +98,7 @@ pub put-is : (before : Lister) (s : Stepped) (row : Row) (block output now : Lis
 unfolding listerAfter
 put-is before s row block output now start at end number answer kind e within n a r p =
     let bytes = take 32 (drop start block) in
-    let came : (answer leaving s .ledger) ≡ offered (before .ledger) bytes = ap (λ (x : ℕ). x leaving s .ledger) a ∙ e in
+    let came : (answer leaving s .ledger) ≡ offered wait (before .ledger) bytes = ap (λ (x : ℕ). x leaving s .ledger) a ∙ e in
     let same : row ≡ rowOf before bytes = r .0 ∙ row-of-same before bytes number (getD block start 0) (answer leaving s .ledger) n (first-byte block start) came in
     record {
       lister = λ i. record { ledger = e i .ledger; number = n i };

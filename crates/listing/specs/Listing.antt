@@ -8,6 +8,7 @@ use lib.ListN.{length, getD, take, drop}
 use Rattle.octets.specs.Runs.{written}
 use Rattle.stages.specs.Stages.{countAt}
 use Rattle.ledger.specs.Ledger.{viewOf, freshLedger, Outcome}
+use Rattle.ledger.specs.Rules.{wait}
 use Rattle.ledger.specs.Run.{offered}
 use Rattle.rows.specs.declared.Row.{Row}
 use Rattle.rows.specs.Rows.{rowLine, shortLine, longest}
@@ -43,11 +44,11 @@ rowAfter number kind after =
 
 -- what is said of the next record
 unfoldable pub rowOf : Lister → List ℕ → Row
-rowOf at bytes = rowAfter (next at) (getD bytes 0 0) (offered (at .ledger) bytes)
+rowOf at bytes = rowAfter (next at) (getD bytes 0 0) (offered wait (at .ledger) bytes)
 
 -- the lister after it
 unfoldable pub listerAfter : Lister → List ℕ → Lister
-listerAfter at bytes = record { ledger = offered (at .ledger) bytes .ledger; number = next at }
+listerAfter at bytes = record { ledger = offered wait (at .ledger) bytes .ledger; number = next at }
 
 -- the lines of the first n records of some bytes
 unfoldable pub linesOf : ℕ → Lister → List ℕ → List ℕ

@@ -8,6 +8,7 @@ ghost use Prim.Native.Nat.{_+_, _*_, _≤_, min};
 ghost use lib.ListN.{length, take, drop};
 ghost use Rattle.ledger.specs.Answers.{answerNumber};
 ghost use Rattle.ledger.specs.Ledger.{_leaving_};
+ghost use Rattle.ledger.specs.Rules.{wait};
 ghost use Rattle.ledger.specs.Run.{offered};
 ghost use Rattle.listing.specs.Answers.{blockOf};
 ghost use Rattle.listing.specs.Listing.{freshLister, rowAfter, listed};
@@ -102,7 +103,7 @@ fn least(a: usize, b: usize) -> usize
 // The record at a place, on a ledger.
 fn step_at(ledger: Ledger, block: &[u8], start: usize) -> Stepped
     requires { ⌜ start + 32 ≤ length (now block) ⌝ }
-    ensures { λ r. ⌜ answerNumber (r .answer) leaving r .ledger ≡ offered ledger (take 32 (drop start (now (block .entry)))) ⌝ }
+    ensures { λ r. ⌜ answerNumber (r .answer) leaving r .ledger ≡ offered wait ledger (take 32 (drop start (now (block .entry)))) ⌝ }
 {
     let mut bytes = [0u8; 32];
     octets::put(&mut bytes, 0, &block[start..start + 32]);
