@@ -74,7 +74,7 @@ module _ (body output : List ℕ) (long : length body ≡ 24) (room : 28 ≤ len
   option-holds = rw after-is whole-holds
 
 -- an output of 28 bytes and an address, or a body of 24, are taken
-fresh-taken : (output address : List ℕ) → 28 ≤ length output → AnAddress address → freshRefusal output address ≡ 0
+pub fresh-taken : (output address : List ℕ) → 28 ≤ length output → AnAddress address → freshRefusal output address ≡ 0
 unfolding freshRefusal
 fresh-taken output address room from = rw (le-ltb (length output) 28 room, address-true address from)
 
