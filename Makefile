@@ -1,15 +1,20 @@
-# run, answer, vectors, test: the toolchain is enough. differential also needs python3 and OpenSSL 3, bench needs gcc.
+# run, calls, answer, vectors, test: the toolchain is enough. differential also needs python3 and OpenSSL 3, bench needs gcc.
 JOURNAL = crates/list_journal/stdin
 VECTORS = crates/vectors/stdin
 REQUESTS = crates/answer_requests/stdin
+CALLS = crates/answer_calls/stdin
 COUNT = 100000
 SEED = 1
 
-.PHONY: run answer vectors test build differential bench
+.PHONY: run calls answer vectors test build differential bench
 
 # Lists a journal of the rollover ledger, document 01's sample or that of a file: make run JOURNAL=file
 run: build-list_journal
 	@target/bin/list_journal <'$(JOURNAL)'
+
+# Answers calls on one ledger (steps, cookies made, cookies checked), the stored ones or those of a file: make calls CALLS=file
+calls: build-answer_calls
+	@target/bin/answer_calls <'$(CALLS)'
 
 # Answers requests, the stored ones or those of a file: make answer REQUESTS=file
 answer: build-answer_requests
@@ -23,7 +28,7 @@ vectors: build-vectors
 test:
 	@.ci/run
 
-build: build-vectors build-read_requests build-answer_requests build-list_journal
+build: build-vectors build-read_requests build-answer_requests build-answer_calls build-list_journal
 
 build-%:
 	@mkdir -p target
@@ -46,6 +51,7 @@ differential: build
 	$(call compare,answer_requests,answers.py)
 	tests/journals.py <crates/list_tail/stdin | cmp - crates/list_tail/stdout
 	$(call compare,list_journal,journals.py)
+	$(call compare,answer_calls,calls.py)
 
 # Times against plain C, and those of cookies and requests against libknot where it is installed, in turns.
 bench:

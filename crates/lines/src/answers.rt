@@ -48,7 +48,8 @@ fn say_good(age: i32, secret: Which) -> bool {
     }
 }
 
-fn say_verdict(verdict: Verdict) -> bool {
+// The verdict, a good one with its age and which secret matched.
+pub fn say_verdict(verdict: Verdict) -> bool {
     match verdict {
         Verdict::Ignored => output::say(b" ignored"),
         Verdict::Absent => output::say(b" absent"),

@@ -81,6 +81,12 @@ pub fn decode_part(text: &[u8], out: &mut [u8]) -> Decoded
     decode(text, out)
 }
 
+// Decodes a field that has to fill a place.
+pub fn fill(text: &[u8], place: &mut [u8]) -> bool {
+    let read = decode(text, place);
+    read.count == place.len()
+}
+
 // The digits of up to 256 bytes, at the front.
 pub(crate) fn digits(bytes: &[u8]) -> [u8; 512]
     requires { ⌜ length (now bytes) ≤ 256 ⌝ }

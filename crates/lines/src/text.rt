@@ -72,6 +72,11 @@ pub fn field(line: &[u8], number: usize) -> &[u8] {
     &rest[0..n]
 }
 
+// Whether a line has this word in front and so many fields.
+pub fn has_shape(line: &[u8], word: &[u8], count: usize) -> bool {
+    octets::same(field(line, 0), word) & (fields(line) == count)
+}
+
 // Moves the bytes from a place up to another to the front, and tells how many there are.
 pub(crate) fn shift(s: &mut [u8], from: usize, to: usize) -> usize {
     let mut i = 0;
