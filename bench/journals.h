@@ -1,4 +1,4 @@
-// Random journals, for bench/ledger.c and bench/journal.c.
+// Random journals, for bench/ledger.c, bench/fleet.c and bench/journal.c.
 #pragma once
 #include "measure.h"
 #include "plain_ledger.h"

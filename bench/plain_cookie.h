@@ -1,4 +1,5 @@
-// Server cookies (RFC 9018) in plain C, to be inlined: what bench/plain_cookie.c and bench/plain_server.c check before, these do.
+// Server cookies (RFC 9018) in plain C, to be inlined: what bench/plain_cookie.c, bench/plain_server.c and bench/plain_fleet.c check
+// before, these do.
 #pragma once
 #include "cookie.h"
 #include "plain_siphash.h"
@@ -22,7 +23,7 @@ static inline uint64_t hash_laid(uint64_t k0, uint64_t k1, uint64_t w0, uint64_t
     return siphash24(k0, k1, message, 16 + address_length);
 }
 
-// It is read as words where it lies, which is faster: the baseline of bench/server.c.
+// It is read as words where it lies, which is faster: the baseline of bench/server.c and bench/fleet.c.
 static inline uint64_t hash_words(uint64_t k0, uint64_t k1, uint64_t w0, uint64_t w1, const uint8_t *address, size_t address_length) {
     uint64_t v0 = k0 ^ 0x736f6d6570736575, v1 = k1 ^ 0x646f72616e646f6d;
     uint64_t v2 = k0 ^ 0x6c7967656e657261, v3 = k1 ^ 0x7465646279746573;

@@ -1,4 +1,5 @@
-// The rollover ledger in plain C, to be inlined: the baseline of bench/ledger.c and a part of bench/plain_lister.c.
+// The rollover ledger in plain C, to be inlined: the baseline of bench/ledger.c, and a part of bench/plain_fleet.c and
+// bench/plain_lister.c.
 #pragma once
 #include <stdbool.h>
 #include <stdint.h>
