@@ -4,7 +4,6 @@ use fleet::Checked;
 use fleet::Made;
 use ledger::Ledger;
 use lines::answers;
-use lines::decimal;
 use lines::fields;
 use lines::hex;
 use lines::output;
@@ -73,8 +72,8 @@ struct Asked {
 fn read(line: &[u8], time_at: usize) -> Asked
     ensures { λ r. ⌜ r .count ≤ length (r .address) ⌝ }
 {
-    let member = decimal::byte_at(line, 1);
-    let time = decimal::number_at(line, time_at);
+    let member = decimal::byte(text::field(line, 1));
+    let time = decimal::number(text::field(line, time_at));
     let mut address = [0u8; 64];
     let got = hex::decode(text::field(line, 4), &mut address);
     Asked {

@@ -1,22 +1,21 @@
 // Steps: the lines step and record.
 use crate::After;
 use ledger::Ledger;
-use lines::decimal;
 use lines::hex;
 use lines::output;
 use lines::text;
 
 // KIND and MEMBER of `step KIND MEMBER TIME SECRET`, put into a record. False: they are badly written.
 fn put_head(line: &[u8], bytes: &mut [u8]) -> bool {
-    let kind = decimal::byte_at(line, 1);
-    let member = decimal::byte_at(line, 2);
+    let kind = decimal::byte(text::field(line, 1));
+    let member = decimal::byte(text::field(line, 2));
     octets::put(bytes, 0, &[kind.byte, member.byte]);
     kind.ok & member.ok
 }
 
 // TIME likewise, big-endian.
 fn put_time(line: &[u8], bytes: &mut [u8]) -> bool {
-    let time = decimal::number_at(line, 3);
+    let time = decimal::number(text::field(line, 3));
     let high = time.number / 4294967296;
     let low = time.number % 4294967296;
     octets::put(bytes, 8, &octets::be32_bytes(high as u32));

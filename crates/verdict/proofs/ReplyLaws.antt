@@ -25,7 +25,13 @@ use Rattle.verdict.specs.declared.Verdict.the-variants.{Good}
 use Rattle.verdict.specs.declared.Which.{Which}
 use Rattle.verdict.specs.declared.Which.the-variants.{Generating}
 
--- what holds in Enabled and in Enforced holds wherever cookies are judged
+-- outside mode Disabled cookies are judged
+pub mode-on : (mode : Mode) → (mode ≡ Disabled → ⊥) → isDisabled mode ≡ false
+mode-on Disabled on = absurd (on refl)
+mode-on Enabled on = refl
+mode-on Enforced on = refl
+
+-- what holds in Enabled and in Enforced holds wherever they are
 pub when-on : (P : Mode → Type 0) → P Enabled → P Enforced → (mode : Mode) → isDisabled mode ≡ false → P mode
 when-on P enabled enforced Disabled on = absurd (true≢false on)
 when-on P enabled enforced Enabled on = enabled

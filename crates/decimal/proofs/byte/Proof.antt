@@ -1,8 +1,8 @@
--- `lines::decimal::byte` meets its contract: a number below 2 ^ 64 that is below 256 too. Assumes nothing.
+-- `decimal::byte` meets its contract: a number below 2 ^ 64 that is below 256 too. Assumes nothing.
 use borrow.Author.Needs.{needs}
-use Rattle.lines.proofs.DecimalLaws.{byte-yes, byte-great, byte-not}
-use Rattle.lines.proofs.decimal.byte.Statement.{statement}
-use Rattle.lines.proofs.decimal.byte.Tie as tie
+use Rattle.decimal.proofs.DecimalLaws.{byte-yes, byte-great, byte-not}
+use Rattle.decimal.proofs.byte.Statement.{statement}
+use Rattle.decimal.proofs.byte.Tie as tie
 
 returns : tie.Need-returns
 returns c = search (needs, byte-yes)

@@ -1,13 +1,13 @@
--- `lines::decimal::number` meets its contract and ends. The invariant: the number so far, followed by what is left, is that of the text, and it
+-- `decimal::number` meets its contract and ends. The invariant: the number so far, followed by what is left, is that of the text, and it
 -- fits. Assumes nothing.
 use Prim.Native.Nat.{_-_, _<_, _^_}
 use mathlib.Core.Path.{_≡_}
 use lib.ListN.{length, drop}
 use borrow.Author.Needs.{needs}
-use Rattle.lines.specs.Decimal.{followedBy, decimal}
-use Rattle.lines.proofs.DecimalLaws.{none-empty, begins, stop-low, stop-high, stop-great, on, end}
-use Rattle.lines.proofs.decimal.number.Statement.{statement}
-use Rattle.lines.proofs.decimal.number.Tie as tie
+use Rattle.decimal.specs.Decimal.{followedBy, decimal}
+use Rattle.decimal.proofs.DecimalLaws.{none-empty, begins, stop-low, stop-high, stop-great, on, end}
+use Rattle.decimal.proofs.number.Statement.{statement}
+use Rattle.decimal.proofs.number.Tie as tie
 
 abbrev Inv-loop : tie.InvT-loop
 Inv-loop text none number₀ i₀ number i = (followedBy number (drop i text) ≡ decimal text) × (number < 2 ^ 64)

@@ -10,7 +10,7 @@ use borrow.Author.Tests.{lt-ltb, le-ltb, le-leb, lt-leb, ltb-false}
 use lib.Dec.{ltb}
 use lib.ListN.{length, drop, getD, drop-of-length-le}
 use lib.Seq.{drop-cons}
-use Rattle.lines.specs.Decimal.{isDigit, followedBy, decimal, below, told}
+use Rattle.decimal.specs.Decimal.{isDigit, followedBy, decimal, below, told}
 
 digit : (b : ℕ) → 48 ≤ b → b ≤ 57 → isDigit b ≡ true
 digit b low high = rw (le-leb 48 b low, le-leb b 57 high)

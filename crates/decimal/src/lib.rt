@@ -1,8 +1,8 @@
-// Decimal numbers. Where a field is no such number, `ok` is false and its value is any. Zeros may stand in front.
-use crate::text;
+// Decimal numbers as a person types them: digits, zeros in front too, and nothing else. Where a text is no such number, or it is too
+// great, `ok` is false and the value is any.
 ghost use mathlib.Core.Path.{_≡_};
 ghost use Prim.Native.Nat.{_^_};
-ghost use Rattle.lines.specs.Decimal.{told, below, decimal};
+ghost use Rattle.decimal.specs.Decimal.{told, below, decimal};
 
 pub struct NumberField {
     pub ok: bool,
@@ -59,14 +59,4 @@ pub fn byte(text: &[u8]) -> ByteField
         }
     }
     ByteField { ok: false, byte: 0 }
-}
-
-// The field of a line, by its number.
-pub fn number_at(line: &[u8], at: usize) -> NumberField {
-    number(text::field(line, at))
-}
-
-// The same for a number from 0 to 255.
-pub fn byte_at(line: &[u8], at: usize) -> ByteField {
-    byte(text::field(line, at))
 }
