@@ -11,7 +11,7 @@ use lib.Seq.{drop-drop, take-add, take-all}
 use Rattle.octets.specs.Numbers.{leNumber, leBytes, beBytes}
 use Rattle.octets.specs.Runs.{sameRun, fits, written}
 use Rattle.octets.proofs.NumberLaws.{length-leBytes, le-again}
-use Rattle.octets.proofs.RunLaws.{written-next}
+use Rattle.octets.proofs.RunLaws.{written-behind}
 use Rattle.secret.specs.declared.Secret.{Secret}
 use Rattle.siphash.specs.SipHash.{sipHash24, sipHash24Bytes}
 use Rattle.verdict.proofs.TimeLaws.{not-true, not-false}
@@ -57,13 +57,6 @@ at-front : (n : ℕ) (output run : List ℕ) → length run ≡ n → n ≤ leng
 unfolding fits written
 at-front n output run long room = rw (zero-add (length run), long, le-leb n (length output) room)
 
--- a run written behind one at the front
-next-on : (output x y b c : List ℕ) (n : ℕ) → b ≡ written output 0 x → length x ≡ n → n + length y ≤ length output → c ≡ written b n y
-    → c ≡ written output 0 (x ++ y)
-next-on output x y b c n e long room f =
-    let place : n ≡ 0 + length x = omega arith in
-    f ∙ ap₂ (λ (l : List ℕ) (k : ℕ). written l k y) e place ∙ written-next output 0 x y (omega arith)
-
 -- the head and three words
 module _ (w0 w1 w2 : ℕ) (output a b c d x y z : List ℕ) (room : 28 ≤ length output)
     (is-x : x ≡ leBytes 8 w0) (is-y : y ≡ leBytes 8 w1) (is-z : z ≡ leBytes 8 w2)
@@ -79,9 +72,9 @@ module _ (w0 w1 w2 : ℕ) (output a b c d x y z : List ℕ) (room : 28 ≤ lengt
       let np : length p ≡ 12 = omega (arith, length-append optionHead x) in
       let nq : length q ≡ 20 = omega (arith, length-append p y) in
       let nr : length r ≡ 28 = omega (arith, length-append q z) in
-      let bp = next-on output optionHead x a b 4 head refl (omega arith) next in
-      let cq = next-on output p y b c 12 bp np (omega arith) next′ in
-      let dr = next-on output q z c d 20 cq nq (omega arith) next″ in
+      let bp = written-behind output optionHead x a b 0 4 head refl (omega arith) next in
+      let cq = written-behind output p y b c 0 12 bp (omega arith) (omega arith) next′ in
+      let dr = written-behind output q z c d 0 20 cq (omega arith) (omega arith) next″ in
       let parts : r ≡ optionHead ++ (x ++ (y ++ z)) = append-assoc p y z ∙ append-assoc optionHead x (y ++ z) in
       let words : optionHead ++ (x ++ (y ++ z)) ≡ optionHead ++ (leBytes 8 w0 ++ (leBytes 8 w1 ++ leBytes 8 w2)) = rw (is-x, is-y, is-z) refl in
       dr ∙ at-front 28 output r nr room ∙ ap (λ (l : List ℕ). l ++ drop 28 output) (parts ∙ words)

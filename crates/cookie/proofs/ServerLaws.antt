@@ -125,10 +125,13 @@ module _ (mode : Mode) (secrets : Secrets) (clock : ℕ) (address body : List �
       judges : (n : Mode) → isDisabled n ≡ false → judgeBody sipHashMethod secrets clock address body ≡ verdict sipHashMethod n secrets clock address body
       judges n f = when-on (λ (k : Mode). judgeBody sipHashMethod secrets clock address body ≡ verdict sipHashMethod k secrets clock address body) refl refl n f
 
+      pub found-body : not b ≡ false → found (judgeBody sipHashMethod secrets clock address body) ≡ judgement sipHashMethod mode secrets clock address body
+      unfolding judgement checkingRefusal
+      found-body g = ap found (judges mode (sym is-d ∙ f)) ∙ rw (← is-a, not-false a e, ← is-d, f, ← is-b, not-false b g)
+
       pub judge-found : not b ≡ false → (v : Verdict) → finding v ≡ judgeBody sipHashMethod secrets clock address body
           → found (finding v) ≡ judgement sipHashMethod mode secrets clock address body
-      unfolding judgement checkingRefusal
-      judge-found g v told = ap found (told ∙ judges mode (sym is-d ∙ f)) ∙ rw (← is-a, not-false a e, ← is-d, f, ← is-b, not-false b g)
+      judge-found g v told = ap found told ∙ found-body g
 
 -- a body is judged only from an address
 pub is-address : (address : List ℕ) (a : Bool) → a ≡ isAddress address → not a ≡ false → isAddress address ≡ true

@@ -76,14 +76,11 @@ fn hash(secret: Secret, w0: u64, w1: u64, address: &[u8]) -> u64
     requires { ⌜ isAddress (now address) ≡ true ⌝ }
     ensures { λ r. ⌜ r ≡ sipHash24 secret (leBytes 8 w0 ++ leBytes 8 w1 ++ now (address .entry)) ⌝ }
 {
-    // Its words by themselves: handed on whole, the secret is copied in memory and loaded again.
-    let key = Secret {
-        k0: secret.k0,
-        k1: secret.k1,
-    };
+    let k0 = secret.k0;
+    let k1 = secret.k1;
     if address.len() == 4 {
         let last = octets::le32(address[0], address[1], address[2], address[3]);
-        return siphash::siphash24_20(key, w0, w1, last);
+        return siphash::siphash24_20(k0, k1, w0, w1, last);
     }
-    siphash::siphash24_32(key, w0, w1, word(address, 0), word(address, 8))
+    siphash::siphash24_32(k0, k1, w0, w1, word(address, 0), word(address, 8))
 }

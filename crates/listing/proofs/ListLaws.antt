@@ -9,9 +9,9 @@ use native.Mathlib.Numerals.{add-one}
 use borrow.Author.Tests.{le-leb}
 use lib.Dec.{eqb}
 use lib.ListN.{length, getD, take, drop, length-append, length-drop}
-use lib.Seq.{drop-drop, take-all, length-take-le, getD-drop}
+use lib.Seq.{drop-drop, length-take-le, getD-drop}
 use Rattle.octets.specs.Runs.{written, fits}
-use Rattle.octets.proofs.RunLaws.{written-back, written-next, length-written}
+use Rattle.octets.proofs.RunLaws.{written-next, written-all, length-written}
 use Rattle.stages.proofs.BelowLaws.{count-most}
 use Rattle.stages.specs.Sets.{memberLimit}
 use Rattle.stages.specs.Stages.{countAt, isPresent, stageOf}
@@ -37,11 +37,6 @@ fresh-is l e = rw e
 
 -- ---- one record
 
--- a run written over a buffer of its own length
-put-whole : (buffer run : List ℕ) → length buffer ≡ length run → written buffer 0 run ≡ run
-put-whole buffer run e =
-    sym (take-all (length run) (written buffer 0 run) (omega (arith, length-written buffer 0 run))) ∙ written-back buffer 0 run (omega arith)
-
 -- the record at a place, copied into one of its own
 pub record-at : (l : Ledger) (r : Stepped) (buffer bytes block : List ℕ) (start : ℕ) → length buffer ≡ 32
     → bytes ≡ written buffer 0 (take (start + 32 - start) (drop start block))
@@ -52,7 +47,7 @@ record-at l r buffer bytes block start b w e within =
     let run = take 32 (drop start block) in
     let long : length run ≡ 32 = length-take-le 32 (drop start block) (omega (arith, length-drop start block)) in
     let size : start + 32 - start ≡ 32 = omega arith in
-    e ∙ ap (λ (x : List ℕ). offered wait l x) (w ∙ ap (λ (k : ℕ). written buffer 0 (take k (drop start block))) size ∙ put-whole buffer run (b ∙ sym long))
+    e ∙ ap (λ (x : List ℕ). offered wait l x) (w ∙ ap (λ (k : ℕ). written buffer 0 (take k (drop start block))) size ∙ written-all buffer run (b ∙ sym long))
 
 -- how many members are at a stage is a number of 8 bits
 pub count-fits : (r : ℕ) (present : ℕ → Bool) (stage : ℕ → ℕ) (k : ℕ) → r ≡ countAt present stage k → r < 256

@@ -111,7 +111,7 @@ fn step_at(ledger: Ledger, block: &[u8], start: usize) -> Stepped
 }
 
 // What is said of a record, by what came of it.
-fn row_of(number: u64, kind: u8, answer: u8, ledger: Ledger) -> Row
+pub fn row_of(number: u64, kind: u8, answer: u8, ledger: Ledger) -> Row
     ensures { λ r. ⌜ (r ≡ rowAfter number kind (answer leaving ledger)) × (length (rowLine r) ≤ longest) ⌝ }
 {
     let rolling = ledger.rolling;

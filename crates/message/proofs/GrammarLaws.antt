@@ -2,7 +2,7 @@
 use Prim.Native.Nat.{ℕ, zero, suc, _+_, _≤_, _<_}
 use native.Mathlib.Nat.{add-zero, zero-add, suc-add}
 use mathlib.Core.Path.{_≡_, refl, sym, ap, _∙_, subst}
-use mathlib.Core.Bool.{Bool, true, false, cond, _&&_, false≢true}
+use mathlib.Core.Bool.{Bool, true, false, cond}
 use mathlib.Core.List.{List, [], _∷_, _++_, map, append-assoc, append-nil}
 use mathlib.Core.Option.{none, some, bind, Option·none-ne-some}
 use native.Mathlib.Decide.{decLt}
@@ -16,7 +16,7 @@ use Rattle.octets.specs.Runs.{Stands, Standing}
 use Rattle.octets.proofs.PartLaws.{Bytes, join, left, right, all-stands, filled, taken, bytes, byte, byte-in, first-byte, number, bind-told, test-told}
 use Rattle.message.specs.Name.{within, isLabel, pastLabels, labelsEnd, terminator, nameEnd}
 use Rattle.message.specs.Record.{questionEnd, fields, whole, recordAt}
-use Rattle.octets.proofs.RefusalLaws.{is-some}
+use Rattle.octets.proofs.RefusalLaws.{both-true, is-some}
 use Rattle.octets.specs.Refusals.{isNone}
 use Rattle.message.specs.Message.{qdcount, ancount, nscount, arcount, questionsEnd, records, sections, malformed}
 use Rattle.message.specs.Grammar.{Name, Question, ARecord, Several, Header, WellFormed, SixExactlyWhen, Said, isRoot, sayingOf, sayings, questionsIn, sayingsBefore, sayingsAdditional, said, ListedAreThese, AtEveryPlace}
@@ -30,10 +30,6 @@ use Rattle.message.specs.declared.Record.{Record}
 use Rattle.message.proofs.NameLaws.{labels-zero, labels-long, labels-go, ends-zero, ends-pointer, name-is}
 
 -- ---- names
-
-both-true : (a b : Bool) → (a && b) ≡ true → (a ≡ true) × (b ≡ true)
-both-true true b h = (refl, h)
-both-true false b h = absurd (false≢true h)
 
 not-empty : (p : List ℕ) → Name p → 1 ≤ length p
 not-empty p zero-byte = omega arith

@@ -1,7 +1,7 @@
 -- A number read byte by byte from a place of a run is the number of the part there. Stated once over the count of bytes. Assumes nothing.
 use mathlib.Core.Path.{_≡_, refl, sym, ap, ap₂, _∙_}
 use mathlib.Core.List.{List, [], _∷_}
-use Prim.Native.Nat.{ℕ, zero, suc, _+_, _-_, _*_, _≤_, _<_}
+use Prim.Native.Nat.{ℕ, zero, suc, _+_, _*_, _^_, _≤_, _<_}
 use native.Mathlib.Nat.{add-suc, add-zero}
 use native.Mathlib.Decide.{decLt}
 use native.Mathlib.Omega.{arith}
@@ -80,6 +80,21 @@ part-again k at s within bytes =
     let part = take k (drop at s) in
     let long : length part ≡ k = length-take-le k (drop at s) (omega (arith, length-drop at s)) in
     ap (λ (n : ℕ). leBytes n (leNumber part)) (sym long) ∙ le-again part (part-bytes k at s bytes)
+
+-- ---- the number of eight bytes has 64 bits
+
+module _ (s : List ℕ) (bytes : (i : ℕ) → getD s i 0 < 256) (at : ℕ) where
+  pub be64-fits : be64At s at < 2 ^ 64
+  unfolding beNumber
+  be64-fits = omega (arith, bytes at, bytes (at + 1), bytes (at + 2), bytes (at + 3), bytes (at + 4), bytes (at + 5), bytes (at + 6), bytes (at + 7))
+
+  le64-from : leNumber (bytesFrom 8 0 at s) < 2 ^ 64
+  unfolding leNumber
+  le64-from =
+      omega (arith, bytes (at + 0), bytes (at + 1), bytes (at + 2), bytes (at + 3), bytes (at + 4), bytes (at + 5), bytes (at + 6), bytes (at + 7))
+
+  pub le64-fits : leNumber (take 8 (drop at s)) < 2 ^ 64
+  le64-fits = rw (le-from 8 0 at s, add-zero at) at le64-from
 
 -- ---- a place and the number of two bytes, added one by one
 

@@ -1,11 +1,12 @@
 -- A table of refusals in words: the first row that applies, and that none does. Stated over the number that it gives, and over any kind of answer. Assumes nothing.
-use Prim.Native.Nat.{ℕ, zero, suc}
+use Prim.Native.Nat.{ℕ, zero, suc, _≤_}
 use mathlib.Core.Path.{_≡_, refl, sym, ap, subst, _∙_}
 use mathlib.Core.Bool.{Bool, true, false, not, cond, _&&_, _||_, true≢false, false≢true}
 use mathlib.Core.List.{List, [], _∷_, _++_}
 use mathlib.Core.Option.{Option, none, some}
 use native.Mathlib.Omega.{arith}
 use lib.Dec.{eqb}
+use Rattle.octets.proofs.EachLaws.{Each}
 use Rattle.octets.specs.Refusals.{Row, first, answered, isNone, FirstIs, this, later, NoneApplies, no-row, not-this}
 
 -- every number is one from 1 on, so that none is taken for "no refusal"
@@ -23,6 +24,10 @@ pub or-r : (a b : Bool) → a || b ≡ false → b ≡ false
 or-r true b e = absurd (true≢false e)
 or-r false b e = e
 
+pub both-true : (a b : Bool) → (a && b) ≡ true → (a ≡ true) × (b ≡ true)
+both-true true b h = (refl, h)
+both-true false b h = absurd (false≢true h)
+
 -- ---- the number that a table gives
 
 pub first-number : {rows : List Row} {n : ℕ} → FirstIs rows n → first rows ≡ n
@@ -34,6 +39,15 @@ none-number no-row = refl
 none-number (not-this r rows t rest) = rw t (none-number rest)
 
 -- and back, a number other than 0 is that of the first row that applies
+-- at most the greatest number that stands in it
+pub first-most : (n : ℕ) (rows : List Row) → Each (λ (r : Row). r .number ≤ n) rows → first rows ≤ n
+first-most n [] are = omega arith
+first-most n (r ∷ rows) are = pick (r .applies) (first-most n rows (are .1))
+  where
+    pick : (b : Bool) → first rows ≤ n → cond b (r .number) (first rows) ≤ n
+    pick true rest = are .0
+    pick false rest = rest
+
 pub number-first : (rows : List Row) (n : ℕ) → first rows ≡ suc n → FirstIs rows (suc n)
 number-first [] n e = absurd (omega (arith, e))
 number-first (r ∷ rows) n e = pick (number-first rows n) (r .applies) refl e

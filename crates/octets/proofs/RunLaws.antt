@@ -9,7 +9,7 @@ use native.Mathlib.Omega.{arith}
 use borrow.Author.Tests.{eqb-true, eq-eqb, ne-eqb, leb-true, le-leb, lt-leb}
 use lib.Dec.{eqb, leb}
 use lib.ListN.{length, take, drop, getD, length-append, drop-of-length-le}
-use lib.Seq.{drop-cons, drop-drop, drop-at, take-at, take-length, length-take-le, paste, length-paste, take-paste, drop-paste}
+use lib.Seq.{drop-cons, drop-drop, drop-at, take-at, take-length, take-all, length-take-le, paste, length-paste, take-paste, drop-paste}
 use Rattle.octets.specs.Runs.{sameRun, fits, written}
 
 -- ---- equality
@@ -107,6 +107,17 @@ written-next buffer at x y within =
     ∙ ap (λ (q : List ℕ). take at buffer ++ q) (sym (append-assoc x y (drop (n + length y) buffer)))
     ∙ ap (λ (k : ℕ). take at buffer ++ ((x ++ y) ++ drop k buffer)) (sym end)
     ∙ sym (whole buffer at (x ++ y) both)
+
+-- the second by the buffer that the first left
+pub written-behind : (buffer x y b c : List ℕ) (at place : ℕ) → b ≡ written buffer at x → place ≡ at + length x → place + length y ≤ length buffer → c ≡ written b place y
+    → c ≡ written buffer at (x ++ y)
+written-behind buffer x y b c at place e is room f =
+    f ∙ ap₂ (λ (l : List ℕ) (k : ℕ). written l k y) e is ∙ written-next buffer at x y (omega (arith, is))
+
+-- a run written over a buffer of its own length
+pub written-all : (buffer run : List ℕ) → length buffer ≡ length run → written buffer 0 run ≡ run
+written-all buffer run e =
+    sym (take-all (length run) (written buffer 0 run) (omega (arith, length-written buffer 0 run))) ∙ written-back buffer 0 run (omega arith)
 
 -- ---- the loop of `same`
 

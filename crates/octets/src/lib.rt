@@ -7,6 +7,7 @@ pub use numbers::be32;
 pub use numbers::be32_bytes;
 pub use numbers::be64;
 pub use numbers::le32;
+pub use numbers::le32_bytes;
 pub use numbers::le64;
 pub use numbers::le64_bytes;
 pub use runs::octet;

@@ -48,6 +48,21 @@ pub fn le64_bytes(x: u64) -> [u8; 8]
     ]
 }
 
+// The four bytes of a number, the lowest first.
+pub fn le32_bytes(x: u32) -> [u8; 4]
+    ensures { λ r. ⌜ r ≡ leBytes 4 x ⌝ }
+{
+    let x1 = x / 256;
+    let x2 = x1 / 256;
+    let x3 = x2 / 256;
+    [
+        (x % 256) as u8,
+        (x1 % 256) as u8,
+        (x2 % 256) as u8,
+        (x3 % 256) as u8,
+    ]
+}
+
 // The number of two bytes, the highest first.
 pub fn be16(b0: u8, b1: u8) -> u16
     ensures { λ r. ⌜ r ≡ beNumber (b0 ∷ b1 ∷ []) ⌝ }

@@ -5,11 +5,12 @@ use mathlib.Core.Bool.{true, false}
 use mathlib.Core.List.{List, [], _∷_}
 use mathlib.Core.Option.{Option, none, some}
 use native.Mathlib.Omega.{arith}
-use borrow.Author.Tests.{not-false}
+use borrow.Author.Tests.{not-false, ltb-false}
+use lib.Dec.{ltb}
 use lib.ListN.{length, take, drop, length-drop}
 use lib.Seq.{length-take-le}
 use Rattle.octets.specs.Refusals.{first, answered}
-use Rattle.octets.proofs.RefusalLaws.{this-not, none-behind, zero-none}
+use Rattle.octets.proofs.RefusalLaws.{or-r, first-most, this-not, none-behind, zero-none}
 use Rattle.octets.proofs.EachLaws.{Each, IfOne}
 use Rattle.edns.proofs.Within.{BodyInside, cookie-within}
 use Rattle.edns.specs.Options.{optionsFrom, optionsIn, optionsOf, firstCookie, isCookieLength}
@@ -89,6 +90,31 @@ request-legal s = part-legal s (request s) (request-inside s) (pick (first (chec
         let from-10 = none-behind _ _ (none-behind _ _ (none-behind _ _ (none-behind _ _ from-6))) in
         found-legal (qdcount s) (startOf (optsIn s)) (cookieOf s) (this-not _ _ from-10)
     pick (suc k) e = tt
+
+-- ---- a refusal is one of ten, at most one question is asked, and places are those of a message of at most 65,535 bytes
+
+abbrev pub AnswerSmall : Answer → Type 0
+AnswerSmall (refused k) = (1 ≤ k) × (k ≤ 10)
+AnswerSmall (noCookie q) = q ≤ 1
+AnswerSmall (cookie q start end) = (q ≤ 1) × (start ≤ end) × (end ≤ 65535)
+
+found-small : (n q base : ℕ) (c : Option EdnsOption) → n ≤ 65535 → q ≤ 1 → AnswerInside n (found q base c) → AnswerSmall (found q base c)
+found-small n q base none small one i = one
+found-small n q base (some o) small one i = (one, i .0, omega (arith, i .1))
+
+pub request-small : (s : List ℕ) → AnswerSmall (request s)
+unfolding request
+request-small s = pick (first (checks s)) refl (request-inside s)
+  where
+    pick : (k : ℕ) → first (checks s) ≡ k → AnswerInside (length s) (answered refused k (foundIn s)) → AnswerSmall (answered refused k (foundIn s))
+    pick zero e i =
+        let pass = zero-none (checks s) (numbered s) e in
+        let small : length s ≤ 65535 = ltb-false 65535 (length s) (or-r (ltb (length s) 12) (ltb 65535 (length s)) (this-not _ _ pass)) in
+        let one : qdcount s ≤ 1 = ltb-false 1 (qdcount s) (this-not _ _ (none-behind _ _ (none-behind _ _ pass))) in
+        found-small (length s) (qdcount s) (startOf (optsIn s)) (cookieOf s) small one i
+    pick (suc k) e i =
+        let most = first-most 10 (checks s) (omega arith, (omega arith, (omega arith, (omega arith, (omega arith, (omega arith, (omega arith, (omega arith, tt)))))))) in
+        (omega arith, omega (arith, most, e))
 
 -- ---- the finder
 

@@ -72,6 +72,10 @@ finalized s =
     let r = rounds 4 (record { v0 = s .v0; v1 = s .v1; v2 = bitXor (s .v2) 255; v3 = s .v3 }) in
     bitXor (bitXor (r .v0) (r .v1)) (bitXor (r .v2) (r .v3))
 
+-- the key of two words
+abbrev pub keyOf : ℕ → ℕ → Secret
+keyOf k0 k1 = record { k0 = k0; k1 = k1 }
+
 -- SipHash-2-4 of a message under a key, as a number
 unfoldable pub sipHash24 : Secret → List ℕ → ℕ
 sipHash24 key message = finalized (compressed (absorbed (length message / 8) message (initialized key)) (lastWord message))

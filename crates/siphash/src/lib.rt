@@ -6,7 +6,7 @@ ghost use lib.ListN.{length, take, drop};
 ghost use lib.Bits.{bitXor};
 ghost use mathlib.Core.List.{_++_};
 ghost use Rattle.octets.specs.Numbers.{leNumber, leBytes};
-ghost use Rattle.siphash.specs.SipHash.{add64, rotl64, sipRound, initialized, compressed, lastWord, finalized, sipHash24, sipHash24Bytes};
+ghost use Rattle.siphash.specs.SipHash.{add64, rotl64, sipRound, initialized, compressed, lastWord, finalized, sipHash24, sipHash24Bytes, keyOf};
 
 // The four words of the internal state.
 struct State {
@@ -153,18 +153,19 @@ pub fn siphash24_bytes(key: Secret, message: &[u8]) -> [u8; 8]
     octets::le64_bytes(siphash24(key, message))
 }
 
-// The hash of a message of 20 bytes, two words and four bytes as a number.
-pub fn siphash24_20(key: Secret, w0: u64, w1: u64, last: u32) -> u64
-    ensures { λ r. ⌜ r ≡ sipHash24 key (leBytes 8 w0 ++ (leBytes 8 w1 ++ leBytes 4 last)) ⌝ }
+// The hash of a message of 20 bytes, two words and four bytes as a number. The key is its two words: where this has several callers it
+// is not laid into them, and a struct would go through memory.
+pub fn siphash24_20(k0: u64, k1: u64, w0: u64, w1: u64, last: u32) -> u64
+    ensures { λ r. ⌜ r ≡ sipHash24 (keyOf k0 k1) (leBytes 8 w0 ++ (leBytes 8 w1 ++ leBytes 4 last)) ⌝ }
 {
-    let s = compress(compress(initialize(key), w0), w1);
+    let s = compress(compress(initialize(Secret { k0, k1 }), w0), w1);
     finalize(compress(s, last as u64 + 0x1400000000000000))
 }
 
 // The hash of a message of 32 bytes, four words.
-pub fn siphash24_32(key: Secret, w0: u64, w1: u64, w2: u64, w3: u64) -> u64
-    ensures { λ r. ⌜ r ≡ sipHash24 key (leBytes 8 w0 ++ (leBytes 8 w1 ++ (leBytes 8 w2 ++ leBytes 8 w3))) ⌝ }
+pub fn siphash24_32(k0: u64, k1: u64, w0: u64, w1: u64, w2: u64, w3: u64) -> u64
+    ensures { λ r. ⌜ r ≡ sipHash24 (keyOf k0 k1) (leBytes 8 w0 ++ (leBytes 8 w1 ++ (leBytes 8 w2 ++ leBytes 8 w3))) ⌝ }
 {
-    let s = compress(compress(initialize(key), w0), w1);
+    let s = compress(compress(initialize(Secret { k0, k1 }), w0), w1);
     finalize(compress(compress(compress(s, w2), w3), 0x2000000000000000))
 }

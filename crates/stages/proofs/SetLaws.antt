@@ -4,11 +4,11 @@ use mathlib.Core.Path.{_≡_, refl, sym, ap, ap₂, _∙_}
 use mathlib.Core.Bool.{Bool, true, false, not, cond, _&&_, _||_}
 use native.Mathlib.Nat.{pow-suc, div-eq-of-lt, lt-of-lt-of-le, not-suc-le-zero}
 use native.Mathlib.Omega.{arith}
-use borrow.Author.Tests.{eqb-true, eqb-false, eq-eqb, ne-eqb, lt-ltb, le-ltb, ltb-false}
-use lib.Bits.{bitAnd, bitOr, and-shr, or-shr, and-mod, or-mod}
+use borrow.Author.Tests.{eqb-true, eqb-false, eq-eqb, ne-eqb, lt-ltb, le-ltb, ltb-true, ltb-false}
+use lib.Bits.{bitAnd, bitOr, and-shr, or-shr, and-mod, or-mod, or-lt}
 use lib.Count.{ones, ones-step}
 use lib.Dec.{eqb, ltb, eqb·zero-suc, eqb·suc-zero, eqb·suc-suc, leb·suc-suc}
-use lib.Pow.{pow-pos, pow-mono, shr-shr}
+use lib.Pow.{pow-pos, pow-mono, pow-lt, ones-lt, shr-shr}
 use Rattle.stages.proofs.BelowLaws.{any-same, count-same, any-first, count-first}
 use Rattle.stages.specs.Sets.{memberLimit, isIn, withMember, numbersBelow, anyBelow, countBelow}
 
@@ -150,3 +150,20 @@ in-below n k most = pick (ltb n memberLimit) refl
     pick : (t : Bool) → ltb n memberLimit ≡ t → isIn (cond t (2 ^ n - 1) (2 ^ memberLimit - 1)) k ≡ ltb k n
     pick true e = in-first n k
     pick false e = let all : n ≡ memberLimit = omega (arith, ltb-false) in rw all (in-first memberLimit k)
+
+-- both have no more bits than there are members
+pub with-fits : (w m : ℕ) → w < 2 ^ memberLimit → withMember w m < 2 ^ memberLimit
+unfolding withMember
+with-fits w m fits = pick (ltb m memberLimit) refl
+  where
+    pick : (t : Bool) → ltb m memberLimit ≡ t → cond t (bitOr w (2 ^ m)) w < 2 ^ memberLimit
+    pick true e = or-lt memberLimit w (2 ^ m) fits (pow-lt (ltb-true m memberLimit e))
+    pick false e = fits
+
+pub below-fits : (n : ℕ) → numbersBelow n < 2 ^ memberLimit
+unfolding numbersBelow
+below-fits n = pick (ltb n memberLimit) refl
+  where
+    pick : (t : Bool) → ltb n memberLimit ≡ t → cond t (2 ^ n - 1) (2 ^ memberLimit - 1) < 2 ^ memberLimit
+    pick true e = let below : 2 ^ n < 2 ^ memberLimit = pow-lt (ltb-true n memberLimit e) in omega arith
+    pick false e = ones-lt memberLimit

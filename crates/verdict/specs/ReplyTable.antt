@@ -25,6 +25,12 @@ isDisabled Disabled = true
 isDisabled Enabled = false
 isDisabled Enforced = false
 
+-- whether the mode is Enforced
+abbrev pub isEnforced : Mode → Bool
+isEnforced Disabled = false
+isEnforced Enabled = false
+isEnforced Enforced = true
+
 -- what the reply is: the question served, an error with its RCODE, or the question with the TC bit alone
 pub data Sent : Type 0 where
   serve truncate : Sent

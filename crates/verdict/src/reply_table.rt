@@ -6,8 +6,10 @@ use crate::Reply;
 use crate::Verdict;
 use crate::Which;
 ghost use mathlib.Core.Path.{_≡_};
+ghost use mathlib.Core.Bool.{cond};
+ghost use lib.Dec.{eqb};
 ghost use Rattle.verdict.specs.Findings.{finding};
-ghost use Rattle.verdict.specs.ReplyTable.{isDisabled, owedOf, replyOwed, keptOrFresh, enabledReply, enforcedReply};
+ghost use Rattle.verdict.specs.ReplyTable.{isDisabled, isEnforced, serve, error, sentOf, owedOf, replyOwed, keptOrFresh, enabledReply, enforcedReply};
 
 // Whether cookies are ignored.
 pub fn is_disabled(mode: Mode) -> bool
@@ -43,61 +45,56 @@ fn kept_or_fresh(age: i32, secret: Which, body: &[u8]) -> Carried
     Carried::Kept
 }
 
-// The table's column for mode Enabled.
-fn enabled(verdict: Verdict, body: &[u8]) -> Reply
-    ensures { λ r. ⌜ owedOf r ≡ enabledReply (finding verdict) (now (body .entry)) ⌝ }
+// Whether the mode is Enforced.
+fn is_enforced(mode: Mode) -> bool
+    ensures { λ r. ⌜ r ≡ isEnforced mode ⌝ }
 {
-    match verdict {
-        Verdict::Ignored => Reply {
-            action: Action::Serve,
-            option: Carried::Nothing,
-        },
-        Verdict::Absent => Reply {
-            action: Action::Serve,
-            option: Carried::Nothing,
-        },
-        Verdict::ClientOnly => Reply {
-            action: Action::Serve,
-            option: Carried::Fresh,
-        },
-        Verdict::Bad(_) => Reply {
-            action: Action::BadCookie,
-            option: Carried::Fresh,
-        },
-        Verdict::Good { age, secret } => {
-            let option = kept_or_fresh(age, secret, body);
-            Reply {
-                action: Action::Serve,
-                option,
-            }
-        }
+    match mode {
+        Mode::Disabled => false,
+        Mode::Enabled => false,
+        Mode::Enforced => true,
     }
 }
 
-// The same for mode Enforced.
-fn enforced(qdcount: u16, verdict: Verdict, body: &[u8]) -> Reply
-    ensures { λ r. ⌜ owedOf r ≡ enforcedReply qdcount (finding verdict) (now (body .entry)) ⌝ }
+// A client cookie alone: it is served where there is no question, too.
+fn client_action(enforced: bool, qdcount: u16) -> Action
+    ensures { λ r. ⌜ sentOf r ≡ cond enforced (cond (eqb qdcount 0) serve (error 23)) serve ⌝ }
+{
+    if !enforced {
+        return Action::Serve;
+    }
+    if qdcount == 0 {
+        return Action::Serve;
+    }
+    Action::BadCookie
+}
+
+// Both columns of the table outside mode Disabled. The verdict is asked before the mode: the compiler then goes on from each place that
+// gives a verdict, and does not ask it again.
+fn outside_disabled(enforced: bool, qdcount: u16, verdict: Verdict, body: &[u8]) -> Reply
+    ensures { λ r. ⌜ owedOf r ≡ cond enforced (enforcedReply qdcount (finding verdict) (now (body .entry))) (enabledReply (finding verdict) (now (body .entry))) ⌝ }
 {
     match verdict {
         Verdict::Ignored => Reply {
             action: Action::Serve,
             option: Carried::Nothing,
         },
-        Verdict::Absent => Reply {
-            action: Action::Truncate,
-            option: Carried::Nothing,
-        },
-        Verdict::ClientOnly => {
-            if qdcount == 0 {
-                Reply {
-                    action: Action::Serve,
-                    option: Carried::Fresh,
-                }
+        Verdict::Absent => {
+            let action = if enforced {
+                Action::Truncate
             } else {
-                Reply {
-                    action: Action::BadCookie,
-                    option: Carried::Fresh,
-                }
+                Action::Serve
+            };
+            Reply {
+                action,
+                option: Carried::Nothing,
+            }
+        }
+        Verdict::ClientOnly => {
+            let action = client_action(enforced, qdcount);
+            Reply {
+                action,
+                option: Carried::Fresh,
             }
         }
         Verdict::Bad(_) => Reply {
@@ -118,12 +115,11 @@ fn enforced(qdcount: u16, verdict: Verdict, body: &[u8]) -> Reply
 pub fn reply_for(mode: Mode, qdcount: u16, verdict: Verdict, body: &[u8]) -> Reply
     ensures { λ r. ⌜ owedOf r ≡ replyOwed mode qdcount (finding verdict) (now (body .entry)) ⌝ }
 {
-    match mode {
-        Mode::Disabled => Reply {
+    if is_disabled(mode) {
+        return Reply {
             action: Action::Serve,
             option: Carried::Nothing,
-        },
-        Mode::Enabled => enabled(verdict, body),
-        Mode::Enforced => enforced(qdcount, verdict, body),
+        };
     }
+    outside_disabled(is_enforced(mode), qdcount, verdict, body)
 }
