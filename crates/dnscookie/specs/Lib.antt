@@ -1,0 +1,5 @@
+pub mod AllCalls
+pub mod Calls
+pub mod Cases
+pub mod Claims
+pub mod Words

@@ -1,0 +1,4 @@
+pub mod Cases
+pub mod Claims
+pub mod ReadLaws
+pub mod WriteLaws
