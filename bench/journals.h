@@ -1,4 +1,4 @@
-// Random journals, for bench/ledger.c, bench/fleet.c and bench/journal.c.
+// Random journals.
 #pragma once
 #include "measure.h"
 #include "plain_ledger.h"
@@ -8,7 +8,7 @@ struct step {
     uint64_t time, secret[2];
 };
 
-static void put_step(uint8_t *record, const struct step *s) {
+static inline void put_step(uint8_t *record, const struct step *s) {
     uint64_t time = __builtin_bswap64(s->time);
     record[0] = s->kind;
     record[1] = s->member;
@@ -18,16 +18,15 @@ static void put_step(uint8_t *record, const struct step *s) {
 }
 
 // One of a set's members.
-static unsigned some_member(uint32_t set) {
+static inline unsigned some_member(uint32_t set) {
     unsigned member;
     do member = below(MEMBERS); while (!(set >> member & 1));
     return member;
 }
 
 // The step that brings a fleet of so many members on, or a CANCEL.
-static struct step onward(const struct ledger *l, unsigned members) {
-    struct step s = {.time = l->last + below(2)};
-    memcpy(s.secret, l->new, sizeof s.secret);
+static inline struct step onward(const struct ledger *l, unsigned members) {
+    struct step s = {.time = l->last + below(2), .secret = {l->new0, l->new1}};
     if (l->open && !l->switched && below(128) == 0) {
         s.kind = CANCEL;
     } else if (l->open) {
@@ -43,25 +42,27 @@ static struct step onward(const struct ledger *l, unsigned members) {
 }
 
 // The same with one field changed: often so little that only one refusal applies.
-static void damage(struct step *s, const struct ledger *l) {
+static inline void damage_step(struct step *s, const struct ledger *l) {
     switch (below(5)) {
     case 0: s->kind = below(8) ? below(6) : below(256); break;
     case 1: s->member = below(4) ? below(MEMBERS) : below(256); break;
     case 2: s->time = below(4) ? l->last - 1 : latest + 1 + below(100); break;
     case 3: s->secret[below(2)] ^= 1ull << below(64); break;
     default:
-        if (s->kind == OPEN) memcpy(s->secret, l->current, sizeof s->secret);
+        if (s->kind == OPEN) s->secret[0] = l->current0, s->secret[1] = l->current1;
         else if (s->kind == DROP) s->time -= below(WAIT);
+        else if (s->kind == SWITCH && l->switched) s->kind = DROP, s->member = some_member(l->switched);
+        else if (s->kind == LEARN && l->learnt) s->kind = SWITCH, s->member = some_member(l->learnt);
         else s->kind++;
     }
 }
 
-// The next record, which is accepted or refused, as it is wanted.
-static void next_record(uint8_t *record, struct ledger *l, unsigned members, bool accepted) {
+// The next record, which is accepted or refused, as it is wanted, and the ledger after it.
+static inline void next_record(uint8_t *record, struct ledger *l, unsigned members, int accepted) {
     for (;;) {
         struct ledger after = *l;
         struct step s = onward(l, members);
-        if (!accepted) damage(&s, l);
+        if (!accepted) damage_step(&s, l);
         put_step(record, &s);
         if ((plain_step(&after, record) == 0) != accepted) continue;
         *l = after;

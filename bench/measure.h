@@ -6,13 +6,13 @@
 #include <string.h>
 #include <time.h>
 
-static double seconds(void) {
+static inline double seconds(void) {
     struct timespec t;
     clock_gettime(CLOCK_MONOTONIC, &t);
     return t.tv_sec + t.tv_nsec * 1e-9;
 }
 
-static uint64_t next(void) { // xorshift64*
+static inline uint64_t next(void) { // xorshift64*
     static uint64_t x = 0x9e3779b97f4a7c15;
     x ^= x >> 12; x ^= x << 25; x ^= x >> 27;
     return x * 0x2545f4914f6cdd1d;
@@ -24,12 +24,12 @@ static inline void fill(void *p, size_t n) {
     for (size_t i = 0; i < n; i++) ((uint8_t *)p)[i] = next() >> 56;
 }
 
-static int ascending(const void *a, const void *b) {
+static inline int ascending(const void *a, const void *b) {
     double x = *(const double *)a, y = *(const double *)b;
     return (x > y) - (x < y);
 }
 
-static double median(double *x, int n) {
+static inline double median(double *x, size_t n) {
     qsort(x, n, sizeof *x, ascending);
     return x[n / 2];
 }

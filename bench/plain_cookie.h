@@ -1,7 +1,6 @@
-// Server cookies (RFC 9018) in plain C, to be inlined: what bench/plain_cookie.c, bench/plain_server.c and bench/plain_fleet.c check
-// before, these do.
+// Server cookies (RFC 9018) in plain C, to be inlined: what plain_cookie.c and plain_server.c check before, these do.
 #pragma once
-#include "cookie.h"
+#include "dnscookie.h"
 #include "plain_siphash.h"
 
 static inline uint32_t be32(const uint8_t *p) {
@@ -10,21 +9,14 @@ static inline uint32_t be32(const uint8_t *p) {
     return __builtin_bswap32(x);
 }
 
-// SipHash-2-4 of client cookie, bytes 0 to 7 of the server cookie, each as a word, and an address of 4 or 16 bytes.
-typedef uint64_t Cookie_hash(uint64_t k0, uint64_t k1, uint64_t w0, uint64_t w1, const uint8_t *address, size_t address_length);
+static inline int are_secrets(size_t length) { return length == 16 || length == 32; }
+static inline int is_address(size_t length) { return length == 4 || length == 16; }
+static inline int is_body(size_t length) { return length == 8 || (16 <= length && length <= 40); }
 
-// What is hashed is laid into a buffer: the baseline of bench/cookie.c.
-static inline uint64_t hash_laid(uint64_t k0, uint64_t k1, uint64_t w0, uint64_t w1, const uint8_t *address, size_t address_length) {
-    uint8_t message[32];
-    memcpy(message, &w0, 8);
-    memcpy(message + 8, &w1, 8);
-    if (address_length == 4) memcpy(message + 16, address, 4);
-    else memcpy(message + 16, address, 16);
-    return siphash24(k0, k1, message, 16 + address_length);
-}
-
-// It is read as words where it lies, which is faster: the baseline of bench/server.c and bench/fleet.c.
-static inline uint64_t hash_words(uint64_t k0, uint64_t k1, uint64_t w0, uint64_t w1, const uint8_t *address, size_t address_length) {
+// SipHash-2-4 of client cookie, bytes 0 to 7 of the server cookie, each as a word, and an address of 4 or 16 bytes. They are read as
+// words where they lie: laid into a buffer first, as most C does, they take longer.
+static inline uint64_t cookie_hash(const uint8_t *secret, uint64_t w0, uint64_t w1, const uint8_t *address, size_t address_length) {
+    uint64_t k0 = word(secret), k1 = word(secret + 8);
     uint64_t v0 = k0 ^ 0x736f6d6570736575, v1 = k1 ^ 0x646f72616e646f6d;
     uint64_t v2 = k0 ^ 0x6c7967656e657261, v3 = k1 ^ 0x7465646279746573;
     v3 ^= w0; ROUND; ROUND; v0 ^= w0;
@@ -44,28 +36,29 @@ static inline uint64_t hash_words(uint64_t k0, uint64_t k1, uint64_t w0, uint64_
     return v0 ^ v1 ^ v2 ^ v3;
 }
 
-// Judges a body of a legal length.
-static inline uint32_t judge_body(Cookie_hash *hash_of, uint32_t secrets, uint64_t k0, uint64_t k1, uint64_t other0, uint64_t other1,
-                                  uint32_t clock, const uint8_t *address, size_t address_length, const uint8_t *body,
-                                  size_t body_length, int32_t *age) {
-    if (body_length == 8) return CLIENT_ONLY;
-    if (body_length != 24 || body[8] != 1) return BAD_METHOD;
+// Judges a body of a legal length: a number, and the age of a good cookie.
+static inline unsigned judge_body(const uint8_t *secrets, size_t secrets_length, uint32_t clock, const uint8_t *address,
+                                  size_t address_length, const uint8_t *body, size_t body_length, int32_t *age) {
+    if (body_length == 8) return DNSCOOKIE_CLIENT_ONLY;
+    if (body_length != 24 || body[8] != 1) return DNSCOOKIE_BAD_METHOD;
     uint64_t w0 = word(body), w1 = word(body + 8), hash = word(body + 16);
-    uint32_t good = GOOD_GENERATING;
-    if (hash_of(k0, k1, w0, w1, address, address_length) != hash) {
-        if (secrets < 2 || hash_of(other0, other1, w0, w1, address, address_length) != hash) return BAD_HASH;
-        good = GOOD_OTHER;
+    unsigned good = DNSCOOKIE_GOOD_GENERATING;
+    if (cookie_hash(secrets, w0, w1, address, address_length) != hash) {
+        if (secrets_length == 16 || cookie_hash(secrets + 16, w0, w1, address, address_length) != hash) return DNSCOOKIE_BAD_HASH;
+        good = DNSCOOKIE_GOOD_OTHER;
     }
     int32_t found = (int32_t)(clock - be32(body + 12)); // wraps, and is read as signed
-    if (found < -300 || 3600 < found) return BAD_TIME;
+    if (found < -300 || 3600 < found) return DNSCOOKIE_BAD_TIME;
     *age = found;
     return good;
 }
 
-static inline void write_fresh(Cookie_hash *hash_of, uint8_t *output, uint64_t k0, uint64_t k1, uint32_t clock, const uint8_t *address,
-                               size_t address_length, const uint8_t *client) {
+static inline uint64_t with_age(unsigned number, int32_t age) { return number | (uint64_t)(uint32_t)age << 32; }
+
+static inline void write_fresh(uint8_t *output, const uint8_t *secret, uint32_t clock, const uint8_t *address, size_t address_length,
+                               const uint8_t *client) {
     uint64_t second = 1 | (uint64_t)__builtin_bswap32(clock) << 32; // version 1, three zeros, timestamp
-    uint64_t hash = hash_of(k0, k1, word(client), second, address, address_length);
+    uint64_t hash = cookie_hash(secret, word(client), second, address, address_length);
     memcpy(output, "\0\12\0\30", 4);
     memcpy(output + 4, client, 8);
     memcpy(output + 12, &second, 8);

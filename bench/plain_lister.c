@@ -6,16 +6,7 @@
 
 enum { BLOCK = 1 << 16, LINE = 64 };
 
-static inline char *put(char *out, uint64_t number, char after) {
-    char digits[20];
-    int n = 0;
-    do digits[n++] = '0' + number % 10; while (number /= 10);
-    while (n) *out++ = digits[--n];
-    *out++ = after;
-    return out;
-}
-
-static void write_all(const char *bytes, size_t length) {
+static void write_all(const uint8_t *bytes, size_t length) {
     while (length) {
         ssize_t n = write(1, bytes, length);
         if (n < 0 && errno == EINTR) continue;
@@ -25,24 +16,11 @@ static void write_all(const char *bytes, size_t length) {
     }
 }
 
-static inline char *put_line(char *out, struct ledger *l, uint64_t number, const uint8_t *record) {
-    unsigned answer = plain_step(l, record);
-    out = put(out, number, ' ');
-    out = put(out, record[0], ' ');
-    out = put(out, answer, ' ');
-    out = put(out, l->open, ' ');
-    out = put(out, __builtin_popcount(l->members & ~l->learnt), ' ');
-    out = put(out, __builtin_popcount(l->learnt & ~l->switched), ' ');
-    out = put(out, __builtin_popcount(l->switched & ~l->dropped), ' ');
-    return put(out, __builtin_popcount(l->dropped), '\n');
-}
-
 int main(void) {
-    static uint8_t in[BLOCK];
-    static char lines[BLOCK];
-    static struct ledger ledger;
+    static uint8_t in[BLOCK], lines[BLOCK];
+    struct ledger ledger = fresh_ledger;
     uint64_t number = 0;
-    char *out = lines;
+    uint8_t *out = lines;
     size_t have = 0;
     for (;;) {
         ssize_t n = read(0, in + have, BLOCK - have);
@@ -53,13 +31,14 @@ int main(void) {
         const uint8_t *record = in;
         for (; have >= RECORD; have -= RECORD, record += RECORD) {
             if (lines + BLOCK - out < LINE) write_all(lines, out - lines), out = lines;
-            out = put_line(out, &ledger, ++number, record);
+            unsigned answer = plain_step(&ledger, record);
+            out = put_line(out, &ledger, ++number, record[0], answer);
         }
         memmove(in, record, have);
     }
     if (have) {
         memcpy(out, "short ", 6);
-        out = put(out + 6, have, '\n');
+        out = put_number(out + 6, have, '\n');
     }
     write_all(lines, out - lines);
 }

@@ -1,4 +1,4 @@
-// A DNS request read in plain C, in one pass, to be inlined: the baseline of bench/request.c and a part of that of bench/server.c.
+// A DNS request read in plain C, in one pass, to be inlined.
 #pragma once
 #include <stddef.h>
 #include <stdint.h>
@@ -19,15 +19,15 @@ static inline const uint8_t *skip_name(const uint8_t *p, const uint8_t *end) {
 }
 
 // Checks 3 and 4.
-static inline uint32_t check_head(const uint8_t *message, size_t length) {
+static inline unsigned check_head(const uint8_t *message, size_t length) {
     if (length < 12 || 65535 < length) return 3;
     return message[2] & 0x80 ? 4 : 0;
 }
 
 // Checks 3 to 10: the number of the first that refuses, and otherwise 0, QDCOUNT and the first COOKIE body, of length 0 if there is
 // none.
-static inline uint32_t read_request(const uint8_t *message, size_t length, uint16_t *qdcount, const uint8_t **body, size_t *body_length) {
-    uint32_t refused = check_head(message, length);
+static inline unsigned read_request(const uint8_t *message, size_t length, unsigned *qdcount, const uint8_t **body, size_t *body_length) {
+    unsigned refused = check_head(message, length);
     if (refused) return refused;
     unsigned questions = be16(message + 4);
     if (questions > 1) return 5;

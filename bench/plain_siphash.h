@@ -1,4 +1,4 @@
-// SipHash-2-4 in plain C, written from the SipHash paper, to be inlined: the baseline of bench/run.
+// SipHash-2-4 in plain C, written from the SipHash paper, to be inlined.
 #pragma once
 #include <stddef.h>
 #include <stdint.h>

@@ -82,7 +82,7 @@ static inline void move(struct lister *s, unsigned kind, unsigned member) {
     }
 }
 
-static inline char *put_line(char *out, struct lister *s, const uint8_t *record) {
+static inline char *put_tuned(char *out, struct lister *s, const uint8_t *record) {
     unsigned answer = plain_step(&s->ledger, record);
     if (answer == 0) move(s, record[0], record[1]);
     out = put_counter(out, &s->counter);
@@ -97,7 +97,7 @@ static inline char *put_line(char *out, struct lister *s, const uint8_t *record)
 int main(void) {
     static uint8_t in[BLOCK];
     static char lines[BLOCK];
-    static struct lister lister = {.counter = {.last = '1'}};
+    static struct lister lister = {.ledger = {.version = VERSION}, .counter = {.last = '1'}};
     char *out = lines;
     size_t have = 0;
     make_texts();
@@ -110,7 +110,7 @@ int main(void) {
         const uint8_t *record = in;
         for (; have >= RECORD; have -= RECORD, record += RECORD) {
             if (lines + BLOCK - out < LINE) write_all(lines, out - lines), out = lines;
-            out = put_line(out, &lister, record);
+            out = put_tuned(out, &lister, record);
         }
         memmove(in, record, have);
     }
