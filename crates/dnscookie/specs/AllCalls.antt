@@ -83,10 +83,12 @@ SayAs [] (e ∷ es) = ⊥
 SayAs (c ∷ cs) [] = ⊥
 SayAs (c ∷ cs) (e ∷ es) = SaysAs c (e .reply) × SayAs cs es
 
+-- each of a list
 abbrev pub AllCrossing : List Call → Type 0
 AllCrossing [] = Unit {0}
 AllCrossing (call ∷ rest) = Crossing call × AllCrossing rest
 
+-- the claim: whatever the lent bytes held, the state is made fresh, and every list of such calls is told what the fleet's run replies
 abbrev pub CallsAreTheFleets : Type 0
 CallsAreTheFleets =
     (lent : List ℕ) → length lent ≡ size → (rooms : ℕ → List ℕ) → ((k : ℕ) → 32 ≤ length (rooms k)) → (calls : List Call) → AllCrossing calls

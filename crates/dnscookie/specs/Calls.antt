@@ -57,6 +57,7 @@ modeOf (suc (suc n)) = Enforced
 unfoldable pub areSecrets : List ℕ → Bool
 areSecrets bytes = eqb (length bytes) 16 || eqb (length bytes) 32
 
+-- what they are. Bytes of another length are refused, whatever is said of them here
 unfoldable pub secretsIn : List ℕ → Secrets
 secretsIn bytes = cond (eqb (length bytes) 16) (One (secretOf bytes)) (Two (secretOf bytes) (secretOf (drop 16 bytes)))
 
@@ -125,6 +126,7 @@ freshCall state = cond (eqb (length state) size) (0 leaving snapshotOf freshLedg
 abbrev pub stateAfter : List ℕ → ledger.Outcome → Outcome
 stateAfter state o = o .answer leaving cond (eqb (o .answer) 0) (snapshotOf (o .ledger)) state
 
+-- a record on what is found in a state: no ledger and a record of another length are refused
 abbrev pub stepOn : Option Ledger → List ℕ → List ℕ → Outcome
 stepOn none state bytes = wrongLedger leaving state
 stepOn (some l) state bytes = cond (eqb (length bytes) 32) (stateAfter state (offered wait l bytes)) (wrongRecord leaving state)
