@@ -56,7 +56,7 @@ fn answer_checked(line: &[u8], checked: Checked) -> bool {
 }
 
 // Who is asked, when, and the client's address.
-#[derive(Drop)]
+#[derive(Clone, Copy)]
 struct Asked {
     ok: bool,
     member: u8,

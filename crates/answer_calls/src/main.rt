@@ -27,7 +27,7 @@ use ledger::Ledger;
 use lines::{output, reader, text};
 
 // What a line leaves.
-#[derive(Drop)]
+#[derive(Clone, Copy)]
 struct After {
     // False: nothing more can be written.
     goes_on: bool,

@@ -14,7 +14,7 @@ pub use server_cookie::judge;
 use verdict::Verdict;
 
 // What can't be used: document 01's refusals 1, 2 and 10, and one of our own.
-#[derive(Drop)]
+#[derive(Clone, Copy)]
 pub enum Refusal {
     // An output of less than 28 bytes.
     Output,
@@ -26,13 +26,13 @@ pub enum Refusal {
     NotKept,
 }
 
-#[derive(Drop)]
+#[derive(Clone, Copy)]
 pub enum Judged {
     Refused(Refusal),
     Found(Verdict),
 }
 
-#[derive(Drop)]
+#[derive(Clone, Copy)]
 pub enum Written {
     Done,
     Refused(Refusal),

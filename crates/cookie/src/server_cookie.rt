@@ -10,7 +10,7 @@ use secret::{Secret, Secrets};
 use verdict::{Mode, Reason, Verdict, Which};
 
 // The secret that matches, if one does.
-#[derive(Drop)]
+#[derive(Clone, Copy)]
 enum Match {
     By(Which),
     Nothing,

@@ -1,15 +1,17 @@
 // Decimal numbers as a person types them: digits, zeros in front too, and nothing else. Where a text is no such number, or it is too
 // great, `ok` is false and the value is any.
+#![tactic(auto)]
+
 ghost use Rattle.std.specs.Prelude.{◌≡◌, ◌^◌};
 ghost use Rattle.decimal.specs.Decimal.{told, below, decimal};
 
-#[derive(Drop)]
+#[derive(Clone, Copy)]
 pub struct NumberField {
     pub ok: bool,
     pub number: u64,
 }
 
-#[derive(Drop)]
+#[derive(Clone, Copy)]
 pub struct ByteField {
     pub ok: bool,
     pub byte: u8,

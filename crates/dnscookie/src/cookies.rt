@@ -41,7 +41,7 @@ pub extern "C" fn dnscookie_make(
     client: &[u8],
     output: &mut [u8],
 ) -> u32
-    ensures { result leaving (λ x. x.now) output.exit ≡ make_call secrets.now clock address.now client.now output.old }
+    ensures { result leaving output.new ≡ make_call secrets.now clock address.now client.now output.old }
 {
     let wrong = arguments::maker_refusal(secrets, client);
     if wrong != 0 {
@@ -77,7 +77,7 @@ fn hash_of(secret: Secret, message: &[u8]) -> u64
 // Writes the hash of a message to the front of the output.
 #[unsafe(no_mangle)]
 pub extern "C" fn dnscookie_siphash24(secret: &[u8], message: &[u8], output: &mut [u8]) -> u32
-    ensures { result leaving (λ x. x.now) output.exit ≡ hash_call secret.now message.now output.old }
+    ensures { result leaving output.new ≡ hash_call secret.now message.now output.old }
 {
     if secret.len() != 16 {
         return arguments::WRONG_SECRETS;

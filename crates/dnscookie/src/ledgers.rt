@@ -15,7 +15,7 @@ use snapshot::Found;
 // A fresh ledger.
 #[unsafe(no_mangle)]
 pub extern "C" fn dnscookie_ledger_fresh(state: &mut [u8]) -> u32
-    ensures { result leaving (λ x. x.now) state.exit ≡ fresh_call state.old }
+    ensures { result leaving state.new ≡ fresh_call state.old }
 {
     if snapshot::write(state, Ledger::fresh()) {
         return 0;
@@ -37,7 +37,7 @@ fn offer(ledger: Ledger, bytes: &[u8]) -> Stepped
 // A record on the ledger that a state holds. Only a step that is accepted is written.
 fn step_on(ledger: Ledger, state: &mut [u8], bytes: &[u8]) -> u32
     requires { length state.old ≡ 68 }
-    ensures { result leaving (λ x. x.now) state.exit ≡ step_on (some ledger) state.old bytes.now }
+    ensures { result leaving state.new ≡ step_on (some ledger) state.old bytes.now }
 {
     if bytes.len() != 32 {
         return arguments::WRONG_RECORD;
@@ -56,7 +56,7 @@ fn step_on(ledger: Ledger, state: &mut [u8], bytes: &[u8]) -> u32
 // A record of the journal, offered to the ledger.
 #[unsafe(no_mangle)]
 pub extern "C" fn dnscookie_ledger_step(state: &mut [u8], bytes: &[u8]) -> u32
-    ensures { result leaving (λ x. x.now) state.exit ≡ step_call state.old bytes.now }
+    ensures { result leaving state.new ≡ step_call state.old bytes.now }
 {
     match snapshot::read(state) {
         Found::Nothing => arguments::WRONG_LEDGER,
@@ -67,7 +67,7 @@ pub extern "C" fn dnscookie_ledger_step(state: &mut [u8], bytes: &[u8]) -> u32
 // Writes the secrets that a member holds to the front of the output, and tells how many bytes they are.
 fn put_secrets(secrets: Secrets, output: &mut [u8]) -> u64
     requires { 32 ≤ length output.old }
-    ensures { result leaving (λ x. x.now) output.exit ≡ handed_over (some secrets) output.old }
+    ensures { result leaving output.new ≡ handed_over (some secrets) output.old }
 {
     match secrets {
         Secrets::One(secret) => {
@@ -83,7 +83,7 @@ fn put_secrets(secrets: Secrets, output: &mut [u8]) -> u64
 }
 
 fn secrets_on(ledger: Ledger, member: u32, output: &mut [u8]) -> u64
-    ensures { result leaving (λ x. x.now) output.exit ≡ secrets_on (some ledger) member output.old }
+    ensures { result leaving output.new ≡ secrets_on (some ledger) member output.old }
 {
     if output.len() < 32 {
         return arguments::NO_ROOM as u64;
@@ -100,7 +100,7 @@ fn secrets_on(ledger: Ledger, member: u32, output: &mut [u8]) -> u64
 // A member's secrets: the generating one, and behind it the other if it holds two.
 #[unsafe(no_mangle)]
 pub extern "C" fn dnscookie_ledger_secrets(state: &[u8], member: u32, output: &mut [u8]) -> u64
-    ensures { result leaving (λ x. x.now) output.exit ≡ secrets_call state.now member output.old }
+    ensures { result leaving output.new ≡ secrets_call state.now member output.old }
 {
     match snapshot::read(state) {
         Found::Nothing => arguments::WRONG_LEDGER as u64,
@@ -109,7 +109,7 @@ pub extern "C" fn dnscookie_ledger_secrets(state: &[u8], member: u32, output: &m
 }
 
 fn line_on(ledger: Ledger, number: u64, bytes: &[u8], answer: u32, output: &mut [u8]) -> u64
-    ensures { result leaving (λ x. x.now) output.exit ≡ line_on (some ledger) number bytes.now answer output.old }
+    ensures { result leaving output.new ≡ line_on (some ledger) number bytes.now answer output.old }
 {
     if bytes.len() != 32 {
         return arguments::WRONG_RECORD as u64;
@@ -133,7 +133,7 @@ pub extern "C" fn dnscookie_ledger_line(
     answer: u32,
     output: &mut [u8],
 ) -> u64
-    ensures { result leaving (λ x. x.now) output.exit ≡ line_call state.now number bytes.now answer output.old }
+    ensures { result leaving output.new ≡ line_call state.now number bytes.now answer output.old }
 {
     match snapshot::read(state) {
         Found::Nothing => arguments::WRONG_LEDGER as u64,

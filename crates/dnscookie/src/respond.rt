@@ -46,7 +46,7 @@ pub extern "C" fn dnscookie_respond(
     message: &[u8],
     output: &mut [u8],
 ) -> u64
-    ensures { result leaving (λ x. x.now) output.exit ≡ respond_call mode secrets.now clock address.now message.now output.old }
+    ensures { result leaving output.new ≡ respond_call mode secrets.now clock address.now message.now output.old }
 {
     let wrong = arguments::holder_refusal(mode, secrets);
     if wrong != 0 {

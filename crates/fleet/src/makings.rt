@@ -37,7 +37,7 @@ pub fn make(
     address: &[u8],
     output: &mut [u8],
 ) -> Made
-    ensures { made_answer result leaving (λ x. x.now) output.exit ≡ reply_to wait sip_hash_method (view_of ledger) (making member time client.now address.now output.old) }
+    ensures { made_answer result leaving output.new ≡ reply_to wait sip_hash_method (view_of ledger) (making member time client.now address.now output.old) }
 {
     match ledger.secrets(member) {
         Held::Nothing => make_without(address, output),

@@ -4,7 +4,7 @@ use mathlib.Core.Path.{◌≡◌, sym, ◌∙◌}
 use mathlib.Core.Bool.{Bool, true, false, not, ◌&&◌, ◌||◌, true≢false}
 use native.Mathlib.Omega.{arith}
 use lib.Dec.{eqb, ltb}
-use borrow.Author.Tests.{ltb-false, eqb-true, eqb-false, not_false}
+use borrow.Author.Tests.{ltb-false, eqb-true, eqb-false, not-false}
 use Rattle.secret.specs.declared.Secret.{Secret}
 use Rattle.stages.specs.Sets.{member_limit}
 use Rattle.ledger.specs.declared.Step.{Step}
@@ -52,15 +52,15 @@ module _ (w : ℕ) (v : View) (m t : ℕ) (b : Secret) where
   pub open_facts : refusal w v (step_of OPEN m t b) ≡ 0 → Opens v
   open_facts e =
       let r = row w v (step_of OPEN m t b) e in
-      record { begun = not_false v.started (or_l (not v.started) false (r 5)); shut = r 4 }
+      record { begun = not-false v.started (or_l (not v.started) false (r 5)); shut = r 4 }
 
   -- rows 5, 7 and 8 of a member step
   steps : (n : ℕ) → not v.started || not v.rolling ≡ false → not (v.present m) ≡ false → not (eqb (v.stage m) n) ≡ false → Steps v m n
   steps n five seven eight = record {
-    begun = not_false v.started (or_l (not v.started) (not v.rolling) five);
-    rolling = not_false v.rolling (or_r (not v.started) (not v.rolling) five);
-    member = not_false (v.present m) seven;
-    at = eqb-true (v.stage m) n (not_false (eqb (v.stage m) n) eight);
+    begun = not-false v.started (or_l (not v.started) (not v.rolling) five);
+    rolling = not-false v.rolling (or_r (not v.started) (not v.rolling) five);
+    member = not-false (v.present m) seven;
+    at = eqb-true (v.stage m) n (not-false (eqb (v.stage m) n) eight);
   }
 
   pub learn_facts : refusal w v (step_of LEARN m t b) ≡ 0 → Steps v m 0

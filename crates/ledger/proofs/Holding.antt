@@ -1,7 +1,7 @@
 -- A member's secrets, by the account of the steps that were accepted. Assumes nothing.
 use Prim.Native.Nat.{ℕ, ◌-◌, ◌≤◌, ◌<◌}
 use mathlib.Core.Path.{◌≡◌, refl, ap, ◌∙◌}
-use mathlib.Core.Bool.{Bool, true, false, cond, ◌&&◌, ◌||◌, and_false}
+use mathlib.Core.Bool.{Bool, true, false, cond, ◌&&◌, ◌||◌, and-false}
 use mathlib.Core.List.{List, [], ◌∷◌}
 use mathlib.Core.Option.{some}
 use native.Mathlib.Omega.{arith}
@@ -79,7 +79,7 @@ module _ (h : List Step) (m : ℕ) where
   unfolding account secrets_of
   held_by = record {
     at_most = stage_most h m;
-    none_held = λ high. rw (le-ltb m (count_by h) high, and_false (started_by h));
+    none_held = λ high. rw (le-ltb m (count_by h) high, and-false (started_by h));
     at_0 = held_at 0;
     at_1 = held_at 1;
     at_2 = held_at 2;

@@ -6,7 +6,7 @@ use mathlib.Core.Bool.{Bool, true, false, not, cond, ◌&&◌, true≢false, fal
 use mathlib.Core.List.{List, [], ◌∷◌}
 use native.Mathlib.Omega.{arith}
 use lib.Dec.{eqb, leb, ltb}
-use borrow.Author.Tests.{ltb-true, lt-ltb, eq-eqb, not_true, not_false}
+use borrow.Author.Tests.{ltb-true, lt-ltb, eq-eqb, not-true, not-false}
 use Rattle.stages.specs.Sets.{member_limit, count_below}
 use Rattle.ledger.specs.declared.Ledger.{Ledger}
 use Rattle.ledger.specs.declared.Step.{Step}
@@ -104,7 +104,7 @@ module _ {w : ℕ} (v : View) (i : Sound w v) (n : ℕ) (tally : Tallied v n) wh
   next_drop m t b e =
       let x = drop_facts w v m t b e in
       let all = left_after m 2 (omega arith) x in
-      drop_either (λ (u : View). u.rolling ≡ ltb (suc n) (3 * heads v)) v m t b (λ q. sym (not_true _ q) ∙ all) (λ q. x.rolling ∙ sym (not_false _ q) ∙ all)
+      drop_either (λ (u : View). u.rolling ≡ ltb (suc n) (3 * heads v)) v m t b (λ q. sym (not-true _ q) ∙ all) (λ q. x.rolling ∙ sym (not-false _ q) ∙ all)
 
   each_next : EachKind w v (λ s. is_member_step s ≡ true → Next s)
   each_next = of_members next_learn next_switch next_drop
@@ -152,7 +152,7 @@ module _ {w : ℕ} (v : View) (i : Sound w v) (n : ℕ) (tally : Tallied v n) wh
   tally_drop m t b e =
       let x = drop_facts w v m t b e in
       drop_either (λ (u : View). Tallied u (suc n)) v m t b (λ q o. absurd (false≢true o))
-      (λ q o. record { begun = x.begun; taken = raised m 2 (omega arith) x; some_left = not_false _ q })
+      (λ q o. record { begun = x.begun; taken = raised m 2 (omega arith) x; some_left = not-false _ q })
 
   each_tallies : EachKind w v Tallies
   unfolding move

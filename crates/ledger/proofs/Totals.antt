@@ -5,7 +5,7 @@ use mathlib.Core.Bool.{Bool, true, false, not, cond, ◌&&◌, ◌||◌, false�
 use native.Mathlib.Omega.{arith}
 use native.Mathlib.Nat.{not-suc-le-zero}
 use lib.Dec.{eqb, ltb}
-use borrow.Author.Tests.{ltb-true, ltb-false, lt-ltb, le-ltb, eqb-true, eqb-false, ne_eqb, not_true, not_false}
+use borrow.Author.Tests.{ltb-true, ltb-false, lt-ltb, le-ltb, eqb-true, eqb-false, ne_eqb, not-true, not-false}
 use Rattle.stages.specs.Sets.{any_below, count_below}
 use Rattle.octets.proofs.RefusalLaws.{or_l, or_r}
 use Rattle.ledger.proofs.Move.{put}
@@ -25,11 +25,11 @@ one_within true stage low = omega arith
 one_within false stage low = omega arith
 
 one_full : (present : Bool) (stage : ℕ) → present && not (eqb stage 3) ≡ false → cond present stage 0 ≡ 3 * cond present 1 0
-one_full true stage e = omega (arith, eqb-true stage 3 (not_false (eqb stage 3) e))
+one_full true stage e = omega (arith, eqb-true stage 3 (not-false (eqb stage 3) e))
 one_full false stage e = omega arith
 
 one_short : (present : Bool) (stage : ℕ) → stage ≤ 3 → present && not (eqb stage 3) ≡ true → cond present stage 0 < 3 * cond present 1 0
-one_short true stage low e = let d : ¬ (stage ≡ 3) = eqb-false stage 3 (not_true (eqb stage 3) e) in omega arith
+one_short true stage low e = let d : ¬ (stage ≡ 3) = eqb-false stage 3 (not-true (eqb stage 3) e) in omega arith
 one_short false stage low e = absurd (false≢true e)
 
 module _ (present : ℕ → Bool) where

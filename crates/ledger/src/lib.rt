@@ -16,7 +16,7 @@ mod rules;
 mod table;
 
 // Why a step is refused: document 01's refusals 1 to 10.
-#[derive(Drop)]
+#[derive(Clone, Copy)]
 pub enum Refusal {
     // 1: no kind of step.
     Kind,
@@ -40,7 +40,7 @@ pub enum Refusal {
     Wait,
 }
 
-#[derive(Drop)]
+#[derive(Clone, Copy)]
 pub enum Answer {
     Accepted,
     Refused(Refusal),
@@ -59,7 +59,7 @@ impl Answer {
 }
 
 // What a record of the journal says.
-#[derive(Drop)]
+#[derive(Clone, Copy)]
 pub struct Step {
     pub kind: u8,
     // The count in START; not looked at in OPEN and CANCEL.
@@ -84,7 +84,7 @@ impl Step {
 }
 
 // Where a secret is not held it is zero.
-#[derive(Drop)]
+#[derive(Clone, Copy)]
 pub struct Ledger {
     pub started: bool,
     // Whether a rollover is open, from the current secret to the new one.
@@ -98,14 +98,14 @@ pub struct Ledger {
 }
 
 // What comes of a step: the answer, and the ledger afterwards.
-#[derive(Drop)]
+#[derive(Clone, Copy)]
 pub struct Stepped {
     pub answer: Answer,
     pub ledger: Ledger,
 }
 
 // A member's secrets.
-#[derive(Drop)]
+#[derive(Clone, Copy)]
 pub enum Held {
     Nothing,
     Holds(Secrets),

@@ -3,38 +3,38 @@ use crate::hex;
 use secret::{Secret, Secrets};
 use verdict::Mode;
 
-#[derive(Drop)]
+#[derive(Clone, Copy)]
 pub struct ModeField {
     pub ok: bool,
     pub mode: Mode,
 }
 
-#[derive(Drop)]
+#[derive(Clone, Copy)]
 pub struct CountField {
     pub ok: bool,
     pub count: u16,
 }
 
-#[derive(Drop)]
+#[derive(Clone, Copy)]
 pub struct ClockField {
     pub ok: bool,
     pub clock: u32,
 }
 
-#[derive(Drop)]
+#[derive(Clone, Copy)]
 pub struct SecretField {
     pub ok: bool,
     pub secret: Secret,
 }
 
-#[derive(Drop)]
+#[derive(Clone, Copy)]
 pub struct SecretsField {
     pub ok: bool,
     pub secrets: Secrets,
 }
 
 // How a server treats cookies, the secrets that it holds and what its clock says.
-#[derive(Drop)]
+#[derive(Clone, Copy)]
 pub struct SettingField {
     pub ok: bool,
     pub mode: Mode,

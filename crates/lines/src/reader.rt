@@ -5,7 +5,7 @@ use crate::{output, text};
 use libc::STDIN_FILENO;
 
 // A line, and what the buffer holds behind it.
-#[derive(Drop)]
+#[derive(Clone, Copy)]
 pub struct Cursor {
     // Whether there is a line.
     pub is_line: bool,

@@ -13,14 +13,14 @@ const BLOCK: usize = 65536;
 const OUTPUT: usize = 98304;
 
 // What follows the bytes that were read.
-#[derive(Drop)]
+#[derive(Clone, Copy)]
 enum Rest {
     More,
     Nothing,
     Failure,
 }
 
-#[derive(Drop)]
+#[derive(Clone, Copy)]
 struct Filled {
     count: usize,
     rest: Rest,
@@ -81,7 +81,7 @@ fn leftover(count: usize, last: bool) -> usize
 }
 
 // The lister after a block, and where the text of the block ends.
-#[derive(Drop)]
+#[derive(Clone, Copy)]
 struct Put {
     lister: Lister,
     end: usize,
@@ -117,7 +117,7 @@ fn say(lines: &[u8]) -> bool {
 }
 
 // The lister after a block, and whether its text was written.
-#[derive(Drop)]
+#[derive(Clone, Copy)]
 struct Said {
     lister: Lister,
     ok: bool,

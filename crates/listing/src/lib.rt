@@ -14,14 +14,14 @@ use ledger::{Ledger, Stepped};
 use rows::Row;
 
 // The ledger after the records so far, and how many they were.
-#[derive(Drop)]
+#[derive(Clone, Copy)]
 pub struct Lister {
     pub ledger: Ledger,
     pub number: u64,
 }
 
 // What comes of a block.
-#[derive(Drop)]
+#[derive(Clone, Copy)]
 pub struct Listed {
     // The records that were listed.
     pub records: usize,
@@ -68,7 +68,7 @@ impl Lister {
 }
 
 // The line of a record put, and the lister after it.
-#[derive(Drop)]
+#[derive(Clone, Copy)]
 struct Put {
     lister: Lister,
     end: usize,

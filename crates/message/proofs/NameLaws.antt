@@ -1,7 +1,7 @@
 -- Where a name ends, by one label at a time and with no count of turns. Assumes nothing.
 use Prim.Native.Nat.{ℕ, zero, suc, ◌+◌, ◌*◌, ◌^◌, ◌≤◌, ◌<◌}
 use mathlib.Core.Path.{◌≡◌, refl, sym, ap, subst, ◌∙◌}
-use mathlib.Core.Bool.{Bool, true, false, cond, and_false}
+use mathlib.Core.Bool.{Bool, true, false, cond, and-false}
 use mathlib.Core.List.{List}
 use mathlib.Core.Option.{Option, none, some, none-ne-some}
 use native.Mathlib.Decide.{dec_lt, dec_le}
@@ -26,7 +26,7 @@ no_label_past : (s : List ℕ) (at : ℕ) → length s ≤ at → is_label s at 
 no_label_past s at past = no_label_zero s at (get_or-eq_default s 0 past)
 
 no_label_long : (s : List ℕ) (at : ℕ) → 63 < get_or s at 0 → is_label s at ≡ false
-no_label_long s at long = simp (lt-leb _ _ long, and_false)
+no_label_long s at long = simp (lt-leb _ _ long, and-false)
 
 -- turns beyond the end change nothing
 enough : (f g : ℕ) (s : List ℕ) (at : ℕ) → length s ≤ at + f → length s ≤ at + g → past_labels f s at ≡ past_labels g s at

@@ -1,7 +1,7 @@
 -- The OPT by one record at a time, and that this is the OPT of the definition. Assumes nothing.
 use Prim.Native.Nat.{ℕ, zero, suc, ◌-◌, ◌≤◌, ◌<◌}
 use mathlib.Core.Path.{◌≡◌, refl, sym, ap, ◌∙◌}
-use mathlib.Core.Bool.{Bool, true, false, not, cond, ◌&&◌, ◌||◌, and_false, or-true}
+use mathlib.Core.Bool.{Bool, true, false, not, cond, ◌&&◌, ◌||◌, and-false, or-true}
 use mathlib.Core.List.{List, [], ◌∷◌}
 use mathlib.Core.Option.{Option, none, some, bind}
 use native.Mathlib.Decide.{dec_le}
@@ -34,7 +34,7 @@ module _ (known : Outline) (placed : Bool) (r : Record) where
     misplaced p = simp (eq-eqb _ _ is-opt, p)
 
     pub foreign : r.root ≡ false → WrongOpt ≡ with_record known placed r
-    foreign f = simp (eq-eqb _ _ is-opt, f, and_false)
+    foreign f = simp (eq-eqb _ _ is-opt, f, and-false)
 
     module _ (in_place : placed ≡ true) (owned : r.root ≡ true) where
       one_more : with_opt known r ≡ with_record known placed r

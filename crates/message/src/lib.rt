@@ -1,5 +1,7 @@
 // The DNS message (RFC 1035) up to its OPT record (RFC 6891): names, questions, records, and which record is the OPT. Every
 // public function takes any bytes and any place, and ends. A pointer ends a name and is not followed, so that a walk only goes forward.
+#![tactic(auto)]
+
 mod names;
 mod records;
 mod sections;
@@ -9,14 +11,14 @@ pub use records::{question_end, record_at};
 pub use sections::walk;
 
 // Where a part of the message ends.
-#[derive(Drop)]
+#[derive(Clone, Copy)]
 pub enum End {
     At(usize),
     Malformed,
 }
 
 // What a record says.
-#[derive(Drop)]
+#[derive(Clone, Copy)]
 pub struct Record {
     // Its owner is the root: the single byte 0.
     pub root: bool,
@@ -30,14 +32,14 @@ pub struct Record {
 }
 
 // The record at a place, or that none is whole there.
-#[derive(Drop)]
+#[derive(Clone, Copy)]
 pub enum Found {
     Whole(Record),
     Cut,
 }
 
 // What a whole message is made of.
-#[derive(Drop)]
+#[derive(Clone, Copy)]
 pub enum Outline {
     // Not of its questions and records alone: refusal 6.
     Malformed,

@@ -1,4 +1,6 @@
 // Bytes as numbers and runs of bytes: what the other crates read, compare and write bytes with.
+#![tactic(auto)]
+
 mod numbers;
 mod runs;
 

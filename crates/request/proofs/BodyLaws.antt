@@ -5,7 +5,7 @@ use mathlib.Core.Bool.{true, false}
 use mathlib.Core.List.{List, [], ◌∷◌}
 use mathlib.Core.Option.{Option, none, some}
 use native.Mathlib.Omega.{arith}
-use borrow.Author.Tests.{not_false, ltb-false}
+use borrow.Author.Tests.{not-false, ltb-false}
 use lib.Dec.{ltb}
 use lib.ListN.{length, take, drop, length-drop}
 use lib.Seq.{length-take-le}
@@ -78,7 +78,7 @@ found_legal : (q base : ℕ) (c : Option EdnsOption) → is_illegal c ≡ false 
 found_legal q base none legal = tt
 found_legal q base (some o) legal =
     let long : base + o.end - (base + o.start) ≡ o.end - o.start = omega arith in
-    rw long (not_false (is_cookie_length (o.end - o.start)) legal)
+    rw long (not-false (is_cookie_length (o.end - o.start)) legal)
 
 pub request_legal : (s : List ℕ) → AnswerLegal s (request s)
 unfolding request

@@ -5,7 +5,7 @@ use mathlib.Core.Bool.{Bool, true, false, not, cond, ◌||◌, true≢false, fal
 use mathlib.Core.List.{List, [], ◌∷◌, ◌++◌}
 use mathlib.Core.Option.{Option, none, some, get_or}
 use native.Mathlib.Omega.{arith}
-use borrow.Author.Tests.{eqb-true, eq-eqb, ne_eqb, not_false}
+use borrow.Author.Tests.{eqb-true, eq-eqb, ne_eqb, not-false}
 use lib.Dec.{eqb}
 use lib.ListN.{length, take, drop, length-drop}
 use lib.Seq.{length-take-le}
@@ -135,8 +135,8 @@ module _ (s : List ℕ) where
         sectioned = sectioned;
         only = is;
         none_before = before;
-        owned = not_false r.root (or_parts (not r.root) false owned).0;
-        version_0 = eqb-true r.version 0 (not_false (eqb r.version 0) version);
+        owned = not-false r.root (or_parts (not r.root) false owned).0;
+        version_0 = eqb-true r.version 0 (not-false (eqb r.version 0) version);
         ordered = inside.0.ordered;
         inside = inside.0.within;
       } in

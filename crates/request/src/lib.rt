@@ -9,7 +9,7 @@ pub use checks::{check_head, cookie_body, read};
 use edns::Cookie;
 
 // Why a request is refused: document 01's refusals 3 to 10.
-#[derive(Drop)]
+#[derive(Clone, Copy)]
 pub enum Refusal {
     // Under 12 or over 65,535 bytes.
     Size,
@@ -30,14 +30,14 @@ pub enum Refusal {
 }
 
 // What the checks of a message's size and QR give.
-#[derive(Drop)]
+#[derive(Clone, Copy)]
 pub enum Head {
     Refused(Refusal),
     Passed,
 }
 
 // What reading a request gives. QDCOUNT is told because the reply depends on it.
-#[derive(Drop)]
+#[derive(Clone, Copy)]
 pub enum Reading {
     Refused(Refusal),
     // No OPT, or no COOKIE option in it.

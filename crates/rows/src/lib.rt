@@ -1,10 +1,12 @@
 // The lines of a journal's listing, put into a lent buffer.
+#![tactic(auto)]
+
 ghost use Rattle.std.specs.Prelude.{◌≡◌, cond, ◌++◌, ◌∷◌, [], ◌+◌, ◌≤◌, length};
 ghost use Rattle.rows.specs.Rows.{decimal, line, row_line, short_line, ◌leaving◌, placed};
 ghost use Rattle.rows.specs.Steps.{Put};
 
 // What is said of a record.
-#[derive(Drop)]
+#[derive(Clone, Copy)]
 pub struct Row {
     // The record's number, from 1.
     pub number: u64,
@@ -144,7 +146,7 @@ fn put_counts(buffer: &mut [u8], at: usize, at0: u8, at1: u8, at2: u8, at3: u8) 
 // Puts the line of a row into a buffer from a place on, and tells where it ends. Where there is no room for the longest line nothing
 // is written, and the place is handed back.
 pub fn put_row(buffer: &mut [u8], at: usize, row: Row) -> usize
-    ensures { result leaving (λ x. x.now) buffer.exit ≡ placed buffer.old at (row_line row) }
+    ensures { result leaving buffer.new ≡ placed buffer.old at (row_line row) }
 {
     if buffer.len() < LONGEST {
         return at;
@@ -161,7 +163,7 @@ pub fn put_row(buffer: &mut [u8], at: usize, row: Row) -> usize
 
 // Puts the line of leftover bytes likewise.
 pub fn put_short(buffer: &mut [u8], at: usize, count: u64) -> usize
-    ensures { result leaving (λ x. x.now) buffer.exit ≡ placed buffer.old at (short_line count) }
+    ensures { result leaving buffer.new ≡ placed buffer.old at (short_line count) }
 {
     if buffer.len() < LONGEST {
         return at;

@@ -1,10 +1,12 @@
 // A cookie secret: 16 bytes, held as the two words that SipHash takes of them. So two secrets are compared by two comparisons, and
 // an enum can hold one, as it can't hold an array.
+#![tactic(auto)]
+
 ghost use Rattle.std.specs.Prelude.{◌≡◌};
 ghost use Rattle.secret.specs.Secret.{secret_of, secret_bytes, same_secret};
 ghost use Rattle.secret.specs.Secrets.{generating_of};
 
-#[derive(Drop)]
+#[derive(Clone, Copy)]
 pub struct Secret {
     pub k0: u64,
     pub k1: u64,
@@ -51,7 +53,7 @@ impl Secret {
 
 // The secrets that a member holds: the one that it makes cookies with and accepts, and perhaps one other that it only accepts. Where
 // none other is held, none is there to be tried by mistake.
-#[derive(Drop)]
+#[derive(Clone, Copy)]
 pub enum Secrets {
     One(Secret),
     Two { generating: Secret, other: Secret },

@@ -4,7 +4,7 @@ use mathlib.Core.Path.{◌≡◌, refl, sym, ap, ◌∙◌}
 use mathlib.Core.Bool.{Bool, true, false, not, false≢true}
 use mathlib.Core.List.{List, []}
 use mathlib.Core.Option.{Option, none, some, get_or}
-use borrow.Author.Tests.{lt-ltb, le-ltb, not_true}
+use borrow.Author.Tests.{lt-ltb, le-ltb, not-true}
 use lib.ListN.{length, take, drop}
 use Rattle.octets.specs.Refusals.{Row, first, answered}
 use Rattle.edns.specs.declared.Cookie.{Cookie}
@@ -117,7 +117,7 @@ module _ (mode : Mode) (secrets : Secrets) (clock : ℕ) (address message output
   module _ (room : 28 ≤ length output) (a : Bool) (is-a : a ≡ is_address address) where
     pub refuse_2 : not a ≡ true → Is (response-as.Refused Address) output
     unfolding respond
-    refuse_2 e = rw (le-ltb (length output) 28 room, ← is-a, not_true a e)
+    refuse_2 e = rw (le-ltb (length output) 28 room, ← is-a, not-true a e)
 
     module _ (from : not a ≡ false) where
       module _ (d : Bool) (is-d : d ≡ is_disabled mode) where

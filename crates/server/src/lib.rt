@@ -9,7 +9,7 @@ pub use responses::respond;
 use verdict::{Reply, Verdict};
 
 // Why a request is refused: document 01's refusals 1 to 10.
-#[derive(Drop)]
+#[derive(Clone, Copy)]
 pub enum Refusal {
     // 1: an output of less than 28 bytes.
     Output,
@@ -20,7 +20,7 @@ pub enum Refusal {
 }
 
 // What is owed to whoever sent a request that is refused.
-#[derive(Drop)]
+#[derive(Clone, Copy)]
 pub enum ErrorReply {
     // The caller's fault, refusals 1 and 2: no fault of the request's.
     CallersFault,
@@ -33,7 +33,7 @@ pub enum ErrorReply {
 }
 
 // What comes of a request.
-#[derive(Drop)]
+#[derive(Clone, Copy)]
 pub enum Response {
     // The output is as it was.
     Refused(Refusal),

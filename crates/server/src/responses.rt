@@ -73,7 +73,7 @@ fn with_cookie(
     output: &mut [u8],
 ) -> Response
     requires { (is_disabled mode ≡ false) × (28 ≤ length output.old) × (is_address address.now ≡ true) × (is_body body.now ≡ true) }
-    ensures { answer_of result leaving (λ x. x.now) output.exit ≡ on_cookie sip_hash_method mode secrets clock address.now qdcount output.old (some body.now) }
+    ensures { answer_of result leaving output.new ≡ on_cookie sip_hash_method mode secrets clock address.now qdcount output.old (some body.now) }
 {
     let verdict = judge(mode, secrets, clock, address, body);
     let reply = verdict::reply_for(mode, qdcount, verdict, body);
@@ -118,7 +118,7 @@ pub fn respond(
     message: &[u8],
     output: &mut [u8],
 ) -> Response
-    ensures { answer_of result leaving (λ x. x.now) output.exit ≡ respond sip_hash_method mode secrets clock address.now message.now output.old }
+    ensures { answer_of result leaving output.new ≡ respond sip_hash_method mode secrets clock address.now message.now output.old }
 {
     if output.len() < 28 {
         return Response::Refused(Refusal::Output);

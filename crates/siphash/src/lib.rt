@@ -6,7 +6,7 @@ ghost use Rattle.siphash.specs.SipHash.{add64, rotl64, sip_round, initialized, c
 use secret::Secret;
 
 // The four words of the internal state.
-#[derive(Drop)]
+#[derive(Clone, Copy)]
 struct State {
     v0: u64,
     v1: u64,

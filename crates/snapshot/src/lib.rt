@@ -18,7 +18,7 @@ pub const SIZE: usize = 68;
 pub const VERSION: u8 = 1;
 
 // What some bytes are.
-#[derive(Drop)]
+#[derive(Clone, Copy)]
 pub enum Found {
     // No snapshot: not SIZE bytes, of another form, or not as `write` has them.
     Nothing,

@@ -1,7 +1,7 @@
 -- What the functions' proofs cite, one law for each answer. Assumes nothing.
 use Prim.Native.Nat.{ℕ, ◌-◌, ◌*◌, ◌/◌, ◌%◌, ◌^◌, ◌≤◌, ◌<◌}
 use mathlib.Core.Path.{◌≡◌, refl, sym, ap, ◌∙◌}
-use mathlib.Core.Bool.{Bool, true, false, not, cond, ◌&&◌, ◌||◌, and_false, and_assoc, not-not}
+use mathlib.Core.Bool.{Bool, true, false, not, cond, ◌&&◌, ◌||◌, and-false, and_assoc, not-not}
 use native.Mathlib.Nat.{lt_of_le_of_lt}
 use native.Mathlib.Omega.{arith}
 use borrow.Author.Tests.{lt-ltb, le-ltb, ne_eqb}
@@ -98,7 +98,7 @@ module _ (s : Stages) where
 
   pub set_past : (k : ℕ) → (k ≡ 0 → ⊥) → (k ≡ 1 → ⊥) → (k ≡ 2 → ⊥) → (k ≡ 3 → ⊥) → At k 0
   set_past k n0 n1 n2 n3 m h =
-      rw (in_none m, ne_eqb (stage_of s m) k (λ e. omega (arith, stage_3 s m, e))) (sym (and_false (is_present s m)))
+      rw (in_none m, ne_eqb (stage_of s m) k (λ e. omega (arith, stage_3 s m, e))) (sym (and-false (is_present s m)))
 
   module _ (fit-d : s.dropped < 4294967296) where
     pub set_2 : (k : ℕ) → k ≡ 2 → At k (bit_and (bit_and s.members s.switched) (4294967295 - s.dropped))

@@ -1,10 +1,12 @@
 // Who the members of a fleet are, and how far each one is in the rollover that is open. The only crate that knows how stages are kept:
 // sets of member numbers, each a word with a bit for each number.
+#![tactic(auto)]
+
 ghost use Rattle.std.specs.Prelude.{◌≡◌, ◌&&◌, eqb};
 ghost use Rattle.stages.specs.Sets.{is_in, with_member, numbers_below, SetOf};
 ghost use Rattle.stages.specs.Stages.{is_present, stage_of, any_at, all_dropped, count_at, no_stages, first_stages, reset_stages, learnt_by, switched_by, dropped_by};
 
-#[derive(Drop)]
+#[derive(Clone, Copy)]
 pub struct Stages {
     // The members of the fleet.
     pub members: u32,

@@ -23,7 +23,7 @@ mod cookies;
 use lines::{fields, hex, output, reader, text};
 
 // What a line asks for.
-#[derive(Drop)]
+#[derive(Clone, Copy)]
 enum Verb {
     Comment,
     Hash,

@@ -1,4 +1,6 @@
 // What a verdict on a DNS cookie is (document 01, "The verdict"), by its age, and the reply that it owes.
+#![tactic(auto)]
+
 mod reply_table;
 mod serial;
 
@@ -6,7 +8,7 @@ pub use reply_table::{is_disabled, reply_for};
 pub use serial::{by_time, serial_age};
 
 // How a member treats cookies.
-#[derive(Drop)]
+#[derive(Clone, Copy)]
 pub enum Mode {
     Disabled,
     Enabled,
@@ -14,7 +16,7 @@ pub enum Mode {
 }
 
 // Why a server cookie is bad: the first step that fails.
-#[derive(Drop)]
+#[derive(Clone, Copy)]
 pub enum Reason {
     Method,
     Hash,
@@ -22,13 +24,13 @@ pub enum Reason {
 }
 
 // Which of the secrets that are held gave a good cookie its hash.
-#[derive(Drop)]
+#[derive(Clone, Copy)]
 pub enum Which {
     Generating,
     Other,
 }
 
-#[derive(Drop)]
+#[derive(Clone, Copy)]
 pub enum Verdict {
     // In mode Disabled.
     Ignored,
@@ -41,7 +43,7 @@ pub enum Verdict {
 }
 
 // What the reply is.
-#[derive(Drop)]
+#[derive(Clone, Copy)]
 pub enum Action {
     Serve,
     BadCookie,
@@ -49,14 +51,14 @@ pub enum Action {
 }
 
 // What COOKIE option the reply carries.
-#[derive(Drop)]
+#[derive(Clone, Copy)]
 pub enum Carried {
     Nothing,
     Fresh,
     Kept,
 }
 
-#[derive(Drop)]
+#[derive(Clone, Copy)]
 pub struct Reply {
     pub action: Action,
     pub option: Carried,
