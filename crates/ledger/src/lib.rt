@@ -1,6 +1,8 @@
 // The rollover ledger of one anycast fleet: not a secret that is saved, but a journal of steps, each of which the ledger accepts or
 // refuses. Members learn a new secret, then make cookies with it, then drop the old one, and no step is accepted that would let one
 // member make what another rejects.
+#![tactic(auto)]
+
 ghost use Rattle.std.specs.Prelude.{◌≡◌};
 ghost use Rattle.ledger.specs.Answers.{answer_number, held_of};
 ghost use Rattle.ledger.specs.Journal.{read_step};

@@ -1,5 +1,7 @@
 // A request read (RFC 1035, RFC 6891, RFC 7873): document 01's checks 3 to 10 in their order, and the body of the first COOKIE option.
 // Takes every message, and copies nothing of it.
+#![tactic(auto)]
+
 mod checks;
 
 ghost use Rattle.std.specs.Prelude.{◌≡◌};

@@ -1,4 +1,6 @@
 // SipHash-2-4 (Aumasson and Bernstein, "SipHash: a fast short-input PRF") of a message of any length.
+#![tactic(auto)]
+
 ghost use Rattle.std.specs.Prelude.{◌≡◌, ◌+◌, ◌<◌, ◌≤◌, ◌++◌, length, take, drop, bit_xor};
 ghost use Rattle.octets.specs.Numbers.{le_number, le_bytes};
 ghost use Rattle.siphash.specs.SipHash.{add64, rotl64, sip_round, initialized, compressed, last_word, finalized, sip_hash24, sip_hash24_bytes, key_of};
