@@ -1,5 +1,7 @@
 // DNS server cookies (RFC 7873, RFC 9018): a COOKIE body judged, a COOKIE option made or kept, and read back. Clock, secrets and
 // address are arguments, and nothing is read but what is lent.
+#![tactic(auto)]
+
 mod cookie_option;
 mod server_cookie;
 

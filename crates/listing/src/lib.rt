@@ -1,5 +1,7 @@
 // The listing of a journal: a line for each record, with the ledger's answer to it and the stages of the members afterwards. It is put
 // into a lent buffer, block by block.
+#![tactic(auto)]
+
 ghost use Rattle.std.specs.Prelude.{◌≡◌, ◌+◌, ◌*◌, ◌≤◌, min, length, take, drop};
 ghost use Rattle.ledger.specs.Answers.{answer_number};
 ghost use Rattle.ledger.specs.Ledger.{◌leaving◌};

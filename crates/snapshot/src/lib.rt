@@ -1,5 +1,7 @@
 // A ledger as bytes: what a controller keeps between steps, in memory that it lends or in a file. Whatever bytes are lent, they are a
 // snapshot of one ledger, or are refused.
+#![tactic(auto)]
+
 ghost use Rattle.std.specs.Prelude.{◌≡◌, true, ◌+◌, ◌≤◌, eqb, length, drop};
 ghost use Rattle.octets.specs.Numbers.{le_bytes};
 ghost use Rattle.octets.specs.Runs.{written};

@@ -1,0 +1,7 @@
+-- `snapshot::put_stages` meets its contract. Assumes nothing.
+use borrow.Author.Rules.{rules}
+use Rattle.snapshot.proofs.WriteLaws.{stages_put}
+use Rattle.snapshot.proofs.put_stages.Goals as goal
+
+pub returns : goal.returns
+returns c = search (rules, stages_put)
