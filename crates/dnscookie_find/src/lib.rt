@@ -1,5 +1,7 @@
 // The COOKIE option of a request found: a call of the library for C (crates/dnscookie) in a crate of its own, since LLVM lays the parser
 // into its caller where there is only one.
+#![tactic(auto)]
+
 ghost use Rattle.std.specs.Prelude.{◌≡◌, ◌≤◌};
 ghost use Rattle.request.specs.Request.{cookie};
 ghost use Rattle.dnscookie_find.specs.Find.{found_word, find_call};

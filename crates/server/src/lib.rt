@@ -1,6 +1,8 @@
 // A request answered (RFC 7873, RFC 9018): what a name server calls for each datagram that comes. Document 01's checks 1 to 10, the
 // verdict on the cookie, the reply that it owes, and the reply's COOKIE option written into a lent buffer. Mode, secrets, clock and
 // address are arguments, and nothing is read but what is lent.
+#![tactic(auto)]
+
 mod refusals;
 mod responses;
 
