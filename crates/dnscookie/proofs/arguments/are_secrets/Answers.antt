@@ -10,4 +10,4 @@ pub returns-in-32 : goal.returns-in-32
 returns-in-32 c = search (rules, two_secrets)
 
 pub returns-in_default : goal.returns-in_default
-returns-in_default c = no_secrets_case _ c.in-16.rest.0.1 c.in-16.rest.1
+returns-in_default c = search (rules, no_secrets_case)

@@ -4,4 +4,4 @@ use Rattle.dnscookie.proofs.ArgumentLaws.{enforced_is}
 use Rattle.dnscookie.proofs.arguments.mode_of.Goals as goal
 
 pub returns-in_default : goal.returns-in_default
-returns-in_default c = enforced_is _ c.in-0.rest.0.1 c.in-0.rest.1
+returns-in_default c = search (rules, enforced_is)

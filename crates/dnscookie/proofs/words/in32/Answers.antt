@@ -4,8 +4,8 @@ use Rattle.dnscookie.proofs.WordLaws.{age_ahead, age_behind}
 use Rattle.verdict.proofs.SignedLaws.{flipped_fits}
 use Rattle.dnscookie.proofs.words.in32.Goals as goal
 
-pub overflow-sub-natural : goal.overflow-sub-natural
-overflow-sub-natural c = search (rules, flipped_fits)
+pub overflow_sub-age : goal.overflow_sub-age
+overflow_sub-age c = search (rules, flipped_fits)
 
 pub returns-then-age-lt0 : goal.returns-then-age-lt0
 returns-then-age-lt0 c = (search (rules, age_ahead), search rules)
