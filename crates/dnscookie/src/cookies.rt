@@ -33,8 +33,7 @@ fn client_of(client: &[u8]) -> [u8; 8]
 }
 
 // Writes a fresh option under the generating secret to the front of the output.
-#[unsafe(no_mangle)]
-pub extern "C" fn dnscookie_make(
+pub fn dnscookie_make(
     secrets: &[u8],
     clock: u32,
     address: &[u8],
@@ -75,8 +74,7 @@ fn hash_of(secret: Secret, message: &[u8]) -> u64
 }
 
 // Writes the hash of a message to the front of the output.
-#[unsafe(no_mangle)]
-pub extern "C" fn dnscookie_siphash24(secret: &[u8], message: &[u8], output: &mut [u8]) -> u32
+pub fn dnscookie_siphash24(secret: &[u8], message: &[u8], output: &mut [u8]) -> u32
     ensures { result leaving output.new ≡ hash_call secret.now message.now output.old }
 {
     if secret.len() != 16 {

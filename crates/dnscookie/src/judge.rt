@@ -86,14 +86,7 @@ fn judge_body(secrets: &[u8], clock: u32, address: &[u8], body: &[u8]) -> u64
 }
 
 // Judges a COOKIE body.
-#[unsafe(no_mangle)]
-pub extern "C" fn dnscookie_judge(
-    mode: u32,
-    secrets: &[u8],
-    clock: u32,
-    address: &[u8],
-    body: &[u8],
-) -> u64
+pub fn dnscookie_judge(mode: u32, secrets: &[u8], clock: u32, address: &[u8], body: &[u8]) -> u64
     ensures { result ≡ judge_call mode secrets.now clock address.now body.now }
 {
     let wrong = arguments::holder_refusal(mode, secrets);

@@ -13,8 +13,7 @@ use secret::Secrets;
 use snapshot::Found;
 
 // A fresh ledger.
-#[unsafe(no_mangle)]
-pub extern "C" fn dnscookie_ledger_fresh(state: &mut [u8]) -> u32
+pub fn dnscookie_ledger_fresh(state: &mut [u8]) -> u32
     ensures { result leaving state.new ≡ fresh_call state.old }
 {
     if snapshot::write(state, Ledger::fresh()) {
@@ -54,8 +53,7 @@ fn step_on(ledger: Ledger, state: &mut [u8], bytes: &[u8]) -> u32
 }
 
 // A record of the journal, offered to the ledger.
-#[unsafe(no_mangle)]
-pub extern "C" fn dnscookie_ledger_step(state: &mut [u8], bytes: &[u8]) -> u32
+pub fn dnscookie_ledger_step(state: &mut [u8], bytes: &[u8]) -> u32
     ensures { result leaving state.new ≡ step_call state.old bytes.now }
 {
     match snapshot::read(state) {
@@ -98,8 +96,7 @@ fn secrets_on(ledger: Ledger, member: u32, output: &mut [u8]) -> u64
 }
 
 // A member's secrets: the generating one, and behind it the other if it holds two.
-#[unsafe(no_mangle)]
-pub extern "C" fn dnscookie_ledger_secrets(state: &[u8], member: u32, output: &mut [u8]) -> u64
+pub fn dnscookie_ledger_secrets(state: &[u8], member: u32, output: &mut [u8]) -> u64
     ensures { result leaving output.new ≡ secrets_call state.now member output.old }
 {
     match snapshot::read(state) {
@@ -125,8 +122,7 @@ fn line_on(ledger: Ledger, number: u64, bytes: &[u8], answer: u32, output: &mut 
 }
 
 // The listing's line of a record: its number in the journal, the record, what the step answered, and the ledger that it left.
-#[unsafe(no_mangle)]
-pub extern "C" fn dnscookie_ledger_line(
+pub fn dnscookie_ledger_line(
     state: &[u8],
     number: u64,
     bytes: &[u8],

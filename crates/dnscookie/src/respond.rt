@@ -37,8 +37,7 @@ fn response_word(response: Response) -> u64
 }
 
 // Answers a request. An option that the reply carries is then at the front of the output.
-#[unsafe(no_mangle)]
-pub extern "C" fn dnscookie_respond(
+pub fn dnscookie_respond(
     mode: u32,
     secrets: &[u8],
     clock: u32,

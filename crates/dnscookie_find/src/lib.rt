@@ -16,8 +16,7 @@ fn place_word(qdcount: u16, start: usize, end: usize) -> u64
 }
 
 // Reads a request outside mode Disabled.
-#[unsafe(no_mangle)]
-pub extern "C" fn dnscookie_find(message: &[u8]) -> u64
+pub fn dnscookie_find(message: &[u8]) -> u64
     ensures { result ≡ find_call message.now }
 {
     match request::read(message) {
