@@ -1,10 +1,6 @@
 -- `decimal::number` meets its contract and ends. The invariant: the number so far, followed by what is left, is that of the text, and it
 -- fits. Assumes nothing.
-use Prim.Native.Nat.{◌-◌, ◌<◌, ◌^◌}
-use mathlib.Core.Path.{◌≡◌}
-use lib.ListN.{length, drop}
 use borrow.Author.Rules.{rules}
-use Rattle.decimal.specs.Decimal.{followed_by, decimal}
 use Rattle.decimal.proofs.DecimalLaws.{none_empty, begins, stop_low, stop_high, stop_great, on, end}
 use Rattle.decimal.proofs.number.Goals as goal
 

@@ -3,9 +3,7 @@
 use Prim.Native.Nat.{◌-◌, ◌<◌, ◌^◌}
 use mathlib.Core.Path.{◌≡◌}
 use lib.ListN.{length, drop}
-use borrow.Author.Rules.{rules}
 use Rattle.decimal.specs.Decimal.{followed_by, decimal}
-use Rattle.decimal.proofs.DecimalLaws.{none_empty, begins, stop_low, stop_high, stop_great, on, end}
 use Rattle.decimal.proofs.number.Given as goal
 
 abbrev pub invariant-loop-i : goal.invariant-loop-i

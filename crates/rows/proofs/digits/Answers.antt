@@ -1,10 +1,6 @@
 -- `rows::digits` meets its contract. The invariant: the digits counted and those of the rest are the number's. Assumes nothing.
-use Prim.Native.Nat.{◌+◌, ◌≤◌}
 use Rattle.rows.proofs.DigitLaws.{length_below, length_one, length_two, length_three, length_four, length_four_more}
-use Rattle.rows.specs.Rows.{decimal}
 use borrow.Author.Rules.{rules}
-use lib.ListN.{length}
-use mathlib.Core.Path.{◌≡◌}
 use native.Mathlib.Omega.{arith}
 use Rattle.rows.proofs.digits.Goals as goal
 

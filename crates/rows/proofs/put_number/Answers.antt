@@ -1,8 +1,6 @@
 -- `rows::put_number` meets its contract. The invariant: the digits behind those of the rest are put. Assumes nothing.
 use Prim.Native.Nat.{◌+◌}
-use Rattle.rows.proofs.NumberLaws.{Filled, fill_none, fill_more, fill_all}
-use borrow.Author.Rules.{rules}
-use lib.ListN.{length-set}
+use Rattle.rows.proofs.NumberLaws.{fill_none, fill_more, fill_all}
 use native.Mathlib.Omega.{arith}
 use Rattle.rows.proofs.put_number.Goals as goal
 

@@ -1,9 +1,5 @@
 -- `rows::put_number` meets its contract. The invariant: the digits behind those of the rest are put. Assumes nothing.
-use Prim.Native.Nat.{◌+◌}
-use Rattle.rows.proofs.NumberLaws.{Filled, fill_none, fill_more, fill_all}
-use borrow.Author.Rules.{rules}
-use lib.ListN.{length-set}
-use native.Mathlib.Omega.{arith}
+use Rattle.rows.proofs.NumberLaws.{Filled}
 use Rattle.rows.proofs.put_number.Given as goal
 
 abbrev pub invariant-loop-rest : goal.invariant-loop-rest

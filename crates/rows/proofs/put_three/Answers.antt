@@ -1,7 +1,5 @@
 -- `rows::put_three` meets its contract. The bytes are stored from the first on. Assumes nothing.
 use Rattle.rows.proofs.StoreLaws.{put_bytes}
-use borrow.Author.Rules.{rules}
-use lib.ListN.{length-set}
 use mathlib.Core.List.{[], ◌∷◌}
 use native.Mathlib.Numerals.{towards_suc}
 use native.Mathlib.Omega.{arith}

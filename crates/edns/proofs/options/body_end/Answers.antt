@@ -1,7 +1,6 @@
 -- `edns::options::body_end` meets its contract. Bytes are below 256, and no sum wraps. Assumes nothing.
 use Prim.Native.Nat.{◌+◌}
 use native.Mathlib.Omega.{arith}
-use borrow.Author.Rules.{rules}
 use Rattle.octets.proofs.ReadLaws.{behind_16}
 use Rattle.edns.proofs.options.body_end.Goals as goal
 

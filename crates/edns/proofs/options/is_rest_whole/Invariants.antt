@@ -1,10 +1,8 @@
 -- `edns::options::is_rest_whole` meets its contract. The options from here are within the data as those from the start are. Assumes nothing.
 use Prim.Native.Nat.{◌-◌}
-use borrow.Author.Rules.{rules}
 use lib.ListN.{length}
 use mathlib.Core.Bool.{not}
-use mathlib.Core.Path.{◌≡◌, refl}
-use Rattle.edns.proofs.OptionLaws.{next_less, whole_end, whole_past, whole_next}
+use mathlib.Core.Path.{◌≡◌}
 use Rattle.edns.specs.Options.{options_from}
 use Rattle.octets.specs.Refusals.{is_none}
 use Rattle.edns.proofs.options.is_rest_whole.Given as goal

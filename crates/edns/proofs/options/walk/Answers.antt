@@ -1,10 +1,6 @@
 -- `edns::options::walk` meets its contract. What is found from here on is what is found in all. Assumes nothing.
-use Prim.Native.Nat.{◌-◌}
 use borrow.Author.Rules.{rules}
-use lib.ListN.{length}
-use mathlib.Core.Path.{◌≡◌}
-use Rattle.edns.proofs.OptionLaws.{next_less, found_from, found_all, found_end, found_past, found_next, found_first, found_first_past}
-use Rattle.edns.specs.Options.{options_from, cookie_in}
+use Rattle.edns.proofs.OptionLaws.{next_less, found_all, found_end, found_past, found_next, found_first, found_first_past}
 use Rattle.edns.proofs.options.walk.Goals as goal
 
 pub loop-at-init : goal.loop-at-init

@@ -1,9 +1,7 @@
 -- `message::names::name_end` meets its contract. The name from here ends where the name from the start does. Assumes nothing.
 use Prim.Native.Nat.{◌-◌}
-use borrow.Author.Rules.{rules}
 use lib.ListN.{length}
-use mathlib.Core.Path.{◌≡◌, refl}
-use Rattle.message.proofs.NameLaws.{name_past, name_zero, rest_past, rest_zero, rest_long, rest_go}
+use mathlib.Core.Path.{◌≡◌}
 use Rattle.message.specs.Name.{name_end}
 use Rattle.message.proofs.names.name_end.Given as goal
 

@@ -1,7 +1,6 @@
 -- `message::records::data_end` meets its contract. Bytes are below 256, and no sum wraps. Assumes nothing.
 use Prim.Native.Nat.{◌+◌}
 use native.Mathlib.Omega.{arith}
-use borrow.Author.Rules.{rules}
 use Rattle.octets.proofs.ReadLaws.{behind_16}
 use Rattle.message.proofs.records.data_end.Goals as goal
 

@@ -1,7 +1,5 @@
 -- `message::sections::questions_end` meets its contract. The questions that are left end where all do. Assumes nothing.
-use borrow.Author.Rules.{rules}
-use mathlib.Core.Path.{◌≡◌, refl}
-use Rattle.message.proofs.MessageLaws.{questions_end_case, questions_cut, questions_next}
+use mathlib.Core.Path.{◌≡◌}
 use Rattle.message.specs.Message.{questions_end}
 use Rattle.message.proofs.sections.questions_end.Given as goal
 

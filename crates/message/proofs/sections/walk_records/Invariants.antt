@@ -1,8 +1,6 @@
 -- `message::sections::walk_records` meets its contract. The records that are left give, with the OPT so far, what all do. Assumes nothing.
 use Prim.Native.Nat.{◌-◌}
-use borrow.Author.Rules.{rules}
-use mathlib.Core.Path.{◌≡◌, refl}
-use Rattle.message.proofs.ScanLaws.{scan_end, scan_over, scan_cut, scan_next}
+use mathlib.Core.Path.{◌≡◌}
 use Rattle.message.specs.Scan.{scanned}
 use Rattle.message.specs.declared.Outline.TheVariants.{NoOpt}
 use Rattle.message.proofs.sections.walk_records.Given as goal

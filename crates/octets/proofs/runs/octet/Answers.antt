@@ -1,7 +1,6 @@
 -- `octets::runs::octet` meets its contract. Past the end `get_or` gives its default, 0. Assumes nothing.
 use lib.ListN.{get_or-eq_default}
 use mathlib.Core.Path.{sym}
-use borrow.Author.Rules.{rules}
 use Rattle.octets.proofs.runs.octet.Goals as goal
 
 pub returns-else-at-s : goal.returns-else-at-s

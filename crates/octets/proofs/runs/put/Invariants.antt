@@ -1,13 +1,9 @@
 -- `octets::runs::put` meets its contract. The invariant: the first i bytes of the run are pasted in.
 -- Assumes nothing.
 use Prim.Native.Nat.{◌≤◌, ◌-◌}
-use Rattle.octets.proofs.RunLaws.{written_not, written_whole}
-use borrow.Author.Rules.{rules}
-use lib.ListN.{length, length-set}
-use lib.Seq.{paste, paste-zero, paste-suc}
-use mathlib.Core.Path.{◌≡◌, refl}
-use native.Mathlib.Numerals.{add-one}
-use native.Mathlib.Omega.{arith}
+use lib.ListN.{length}
+use lib.Seq.{paste}
+use mathlib.Core.Path.{◌≡◌}
 use Rattle.octets.proofs.runs.put.Given as goal
 
 abbrev pub invariant-loop-i : goal.invariant-loop-i

@@ -1,11 +1,9 @@
 -- `octets::runs::same` meets its contract. The invariant: the rest from i on is the same in both exactly where the whole is.
 -- Assumes nothing.
 use Prim.Native.Nat.{◌≤◌, ◌-◌}
-use Rattle.octets.proofs.RunLaws.{same_lengths, same_stop, same_on, same_end}
 use Rattle.octets.specs.Runs.{same_run}
-use borrow.Author.Rules.{rules}
 use lib.ListN.{length, drop}
-use mathlib.Core.Path.{◌≡◌, refl}
+use mathlib.Core.Path.{◌≡◌}
 use Rattle.octets.proofs.runs.same.Given as goal
 
 abbrev pub invariant-loop-i : goal.invariant-loop-i

@@ -1,5 +1,4 @@
 -- `stages::Stages::drop` meets its contract. Assumes nothing.
-use borrow.Author.Rules.{rules}
 use Rattle.stages.proofs.Stages.drop.Goals as goal
 
 pub returns : goal.returns

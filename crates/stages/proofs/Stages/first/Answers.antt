@@ -1,5 +1,4 @@
 -- `stages::Stages::first` meets its contract. Assumes nothing.
-use borrow.Author.Rules.{rules}
 use Rattle.stages.proofs.Stages.first.Goals as goal
 
 pub returns : goal.returns

@@ -1,5 +1,4 @@
 -- `stages::Stages::learn` meets its contract. Assumes nothing.
-use borrow.Author.Rules.{rules}
 use Rattle.stages.proofs.Stages.learn.Goals as goal
 
 pub returns : goal.returns

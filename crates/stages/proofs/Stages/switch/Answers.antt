@@ -1,5 +1,4 @@
 -- `stages::Stages::switch` meets its contract. Assumes nothing.
-use borrow.Author.Rules.{rules}
 use Rattle.stages.proofs.Stages.switch.Goals as goal
 
 pub returns : goal.returns
