@@ -1,6 +1,6 @@
 -- Cases that pin the definitions of Request.antt and Answers.antt: for each check messages that it refuses, and one in which a student would see the next
 -- check's reason too. Assumes nothing.
-use Rattle.std.specs.Prelude.{◌≡◌, true, false, List, [], ◌∷◌, ◌++◌, map, ℕ, ◌+◌, ◌≤◌, length, replicate}
+use Rattle.std.specs.Prelude.{◌≡◌, true, false, List, [], ◌∷◌, ◌++◌, map, ℕ, ◌≤◌, length, replicate}
 use Rattle.octets.specs.Numbers.{be_bytes, printed, up_to}
 use Rattle.octets.specs.Refusals.{Row, ◌when◌}
 use Rattle.message.specs.Cases.{flagged, question, plain}

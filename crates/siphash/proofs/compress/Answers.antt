@@ -1,7 +1,6 @@
 -- `siphash::compress` meets its contract.
 -- Assumes nothing.
 use Rattle.siphash.specs.SipHash.{compressed, rounds}
-use Rattle.std.proofs.Common.{rules}
 use Rattle.siphash.proofs.compress.Goals as goal
 
 pub returns : goal.returns

@@ -1,7 +1,6 @@
 -- `siphash::finalize` meets its contract.
 -- Assumes nothing.
 use Rattle.siphash.specs.SipHash.{finalized, rounds}
-use Rattle.std.proofs.Common.{rules}
 use Rattle.siphash.proofs.finalize.Goals as goal
 
 pub returns : goal.returns

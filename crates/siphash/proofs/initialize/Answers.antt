@@ -1,7 +1,6 @@
 -- `siphash::initialize` meets its contract.
 -- Assumes nothing.
 use Rattle.siphash.specs.SipHash.{initialized}
-use Rattle.std.proofs.Common.{rules}
 use Rattle.siphash.proofs.initialize.Goals as goal
 
 pub returns : goal.returns

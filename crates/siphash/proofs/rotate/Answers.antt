@@ -1,7 +1,6 @@
 -- `siphash::rotate` meets its contract. The two shifted parts have no bit in common.
 -- Assumes nothing.
 use Rattle.siphash.proofs.RotateLaws.{rotl64_is}
-use Rattle.std.proofs.Common.{rules}
 use Rattle.siphash.proofs.rotate.Goals as goal
 
 pub returns : goal.returns

@@ -1,7 +1,6 @@
 -- `siphash::round` meets its contract. Each operation is what its contract says.
 -- Assumes nothing.
 use Rattle.siphash.specs.SipHash.{sip_round}
-use Rattle.std.proofs.Common.{rules}
 use Rattle.siphash.proofs.round.Goals as goal
 
 pub returns : goal.returns

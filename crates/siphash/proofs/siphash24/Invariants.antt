@@ -1,7 +1,6 @@
 -- `siphash::siphash24` meets its contract. The invariant: the state has taken in the first i words. The measure is the words left.
 -- Assumes nothing.
-use Rattle.std.proofs.Common.{◌≡◌, ◌-◌, ◌≤◌, rules}
-use Rattle.siphash.proofs.WordLaws.{absorb_one, hash_is}
+use Rattle.std.proofs.Common.{◌≡◌, ◌-◌, ◌≤◌}
 use Rattle.siphash.specs.SipHash.{absorbed}
 use Rattle.siphash.proofs.siphash24.Given as goal
 

@@ -1,7 +1,6 @@
 -- `siphash::siphash24_bytes` meets its contract. By the two contracts.
 -- Assumes nothing.
 use Rattle.siphash.specs.SipHash.{sip_hash24_bytes}
-use Rattle.std.proofs.Common.{rules}
 use Rattle.siphash.proofs.siphash24_bytes.Goals as goal
 
 pub returns : goal.returns
