@@ -6,7 +6,7 @@ use Prim.Native.Nat.{ℕ, suc, ◌+◌, ◌-◌, ◌%◌, ◌^◌, ◌≤◌, �
 use native.Mathlib.Omega.{arith}
 use borrow.Author.Tests.{le-ltb, le-leb, lt-leb}
 use lib.Dec.{ltb, leb, le→leb}
-use lib.IntN.{ℤ, pos, negsuc, sub_ℕ}
+use lib.IntN.{pos, negsuc, sub_ℕ}
 use lib.ListN.{length, take, drop, get_or, length-append, length-drop}
 use lib.Seq.{take_at, drop_at, take-append-le, drop-append-le, take_all, drop-drop, get_or-drop}
 use lib.Signed.{◌≤ℤ◌}

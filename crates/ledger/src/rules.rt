@@ -66,8 +66,8 @@ fn is_too_soon(time: u64, switch: u64) -> bool
 
 // Rows 7 to 10, of LEARN, SWITCH and DROP.
 fn check_member(kind: u8, member: u8, time: u64, stages: Stages, switch: u64) -> Answer
-    requires le_kind { 2 ≤ kind }
-    requires kind_bound { kind ≤ 4 }
+    requires low { 2 ≤ kind }
+    requires high { kind ≤ 4 }
     ensures { answer_number result ≡ first (7 when not (is_present stages member) ∷ 8 when not (eqb (stage_of stages member) (kind - 2)) ∷ 9 when (eqb kind 3 && any_at (is_present stages) (stage_of stages) 0 || eqb kind 4 && (any_at (is_present stages) (stage_of stages) 0 || any_at (is_present stages) (stage_of stages) 1)) ∷ 10 when (eqb kind 4 && ltb time (switch + wait)) ∷ []) }
 {
     if !stages.is_present(member) {
@@ -96,8 +96,8 @@ fn check_member(kind: u8, member: u8, time: u64, stages: Stages, switch: u64) ->
 
 // The rows from 4 on, of the kinds that name the new secret.
 fn check_rolling(l: Ledger, s: Step) -> Answer
-    requires le_kind { 2 ≤ s.kind }
-    requires kind_bound { s.kind ≤ 5 }
+    requires low { 2 ≤ s.kind }
+    requires high { s.kind ≤ 5 }
     ensures { answer_number result ≡ first (drop 3 (refusals wait (view_of l) s)) }
 {
     let secret = s.secret;

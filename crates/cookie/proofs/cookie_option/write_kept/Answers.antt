@@ -1,6 +1,5 @@
 -- `cookie::cookie_option::write_kept` meets its contract. The three words are the body. Assumes nothing.
 use Rattle.cookie.proofs.OptionLaws.{kept_no_room, kept_no_body, kept_done}
-use borrow.Author.Rules.{rules}
 use Rattle.cookie.proofs.cookie_option.write_kept.Goals as goal
 
 pub returns-then-output-lt28 : goal.returns-then-output-lt28

@@ -1,6 +1,5 @@
 -- `cookie::cookie_option::write_words` meets its contract. Four runs put one after the other are one run. Assumes nothing.
 use Rattle.cookie.proofs.OptionLaws.{words_done}
-use borrow.Author.Rules.{rules}
 use Rattle.cookie.proofs.cookie_option.write_words.Goals as goal
 
 pub returns : goal.returns
