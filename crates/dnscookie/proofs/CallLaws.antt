@@ -1,5 +1,5 @@
 -- What the proofs of the calls on cookies and requests cite, one law for each answer. Assumes nothing.
-use Rattle.std.proofs.Common.{◌≡◌, ℕ, zero, suc, ◌+◌, ◌-◌, ◌*◌, ◌^◌, ◌<◌, ◌≤◌, true, List, [], ◌∷◌, ◌++◌, length, get_or, take, drop, sym, refl, ap, ◌∙◌, subst, ap₂, arith, length-drop, take_all, drop-drop, take-add, w8, Fits, le-ltb, lt-ltb, eq-eqb, ne_eqb}
+use Rattle.std.proofs.Common.{◌≡◌, ℕ, zero, suc, ◌+◌, ◌-◌, ◌*◌, ◌^◌, ◌<◌, ◌≤◌, true, List, [], ◌∷◌, ◌++◌, length, get_or, take, drop, sym, refl, ap, ◌∙◌, ap₂, arith, length-drop, take_all, drop-drop, take-add, w8, Fits, le-ltb, lt-ltb, eq-eqb, ne_eqb}
 use Rattle.octets.specs.Numbers.{le_number, le_bytes}
 use Rattle.octets.specs.Refusals.{answered}
 use Rattle.octets.specs.Runs.{written}
@@ -14,7 +14,6 @@ use Rattle.verdict.specs.declared.Mode.{Mode}
 use Rattle.verdict.specs.declared.Reply.{Reply}
 use Rattle.verdict.specs.declared.Verdict.{Verdict}
 use Rattle.cookie.specs.CookieOption.{written_number, fresh_refusal, fresh_option, output_after}
-use Rattle.cookie.specs.ServerCookie as cookie
 use Rattle.cookie.specs.ServerCookie.{sip_hash_method}
 use Rattle.cookie.specs.declared.Written.{Written}
 use Rattle.server.specs.Answers.{refusal_number, due_of, answer_of}

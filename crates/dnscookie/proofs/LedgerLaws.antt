@@ -1,5 +1,5 @@
 -- What the proofs of the calls on a ledger cite, one law for each answer. Assumes nothing.
-use Rattle.std.proofs.Common.{◌≡◌, ℕ, ◌+◌, ◌*◌, ◌^◌, ◌<◌, ◌≤◌, Bool, true, false, cond, ◌&&◌, eqb, List, ◌++◌, length, get_or, sym, refl, ap, ◌∙◌, ap₂, zero-add, arith, length-append, w64, Fits, le-ltb, lt-ltb, eq-eqb, ne_eqb, le-leb}
+use Rattle.std.proofs.Common.{◌≡◌, ℕ, ◌*◌, ◌^◌, ◌<◌, ◌≤◌, Bool, true, false, cond, ◌&&◌, eqb, List, ◌++◌, length, get_or, sym, refl, ap, ◌∙◌, ap₂, zero-add, arith, length-append, w64, Fits, le-ltb, lt-ltb, eq-eqb, ne_eqb, le-leb}
 use mathlib.Core.Bool.{false≢true}
 use mathlib.Core.Option.{none, some}
 use Rattle.octets.specs.Refusals.{is_none}
@@ -30,7 +30,7 @@ use Rattle.snapshot.specs.declared.Found.{Found}
 use Rattle.snapshot.specs.declared.Found.TheVariants as found_as
 use Rattle.snapshot.proofs.ReadLaws.{has_size}
 use Rattle.snapshot.proofs.WriteLaws.{length_secret}
-use Rattle.dnscookie.specs.Calls.{Outcome, ◌leaving◌, fresh_call, step_on, step_call, handed_over, secrets_on, secrets_call, line_refusal, line_on, line_call}
+use Rattle.dnscookie.specs.Calls.{◌leaving◌, fresh_call, step_on, step_call, handed_over, secrets_on, secrets_call, line_refusal, line_on, line_call}
 use Rattle.dnscookie.specs.Words.{length_word}
 
 -- ---- a fresh ledger

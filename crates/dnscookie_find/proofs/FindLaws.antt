@@ -1,7 +1,7 @@
 -- What the proof of dnscookie_find cites, one law for each answer. Assumes nothing.
 use mathlib.Core.Path.{◌≡◌, sym, ap, subst, ◌∙◌}
 use mathlib.Core.List.{List}
-use Prim.Native.Nat.{ℕ, ◌+◌, ◌*◌, ◌^◌, ◌≤◌}
+use Prim.Native.Nat.{ℕ, ◌+◌, ◌*◌, ◌≤◌}
 use native.Mathlib.Omega.{arith}
 use Rattle.edns.specs.declared.Cookie.{Cookie}
 use Rattle.request.proofs.BodyLaws.{AnswerSmall, request_small}

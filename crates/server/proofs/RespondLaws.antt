@@ -32,7 +32,7 @@ use Rattle.cookie.proofs.ServerLaws.{is_address_lem}
 use Rattle.cookie.specs.ServerCookie.{CookieMethod, sip_hash_method, is_address}
 use Rattle.server.proofs.ReplyLaws.{absent_none}
 use Rattle.server.specs.Answers.{answer_of}
-use Rattle.server.specs.Server.{Answer, refused, replied, Outcome, ◌leaving◌, checks, unless_disabled, body_in, judged, verdict_on, refusing, replying, respond}
+use Rattle.server.specs.Server.{Answer, refused, replied, Outcome, ◌leaving◌, unless_disabled, body_in, judged, verdict_on, refusing, replying, respond}
 use Rattle.server.specs.Steps.{on_cookie, ignoring}
 use Rattle.server.specs.declared.Refusal.TheVariants.{Output, Address, Request}
 use Rattle.server.specs.declared.Response.{Response}

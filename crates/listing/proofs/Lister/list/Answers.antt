@@ -1,7 +1,6 @@
 -- `listing::Lister::list` meets its contract: after i records the lines of i records stand in the output. Assumes nothing.
-use Rattle.std.proofs.Common.{◌≡◌, ◌-◌, ◌≤◌, rules}
-use Rattle.listing.specs.Listing.{room}
-use Rattle.listing.proofs.ListLaws.{Sofar, whole_record, none_yet, one_more, as_long, all_listed, all_short}
+use Rattle.std.proofs.Common.{rules}
+use Rattle.listing.proofs.ListLaws.{whole_record, none_yet, one_more, as_long, all_listed, all_short}
 use Rattle.listing.proofs.Lister.list.Goals as goal
 
 pub loop-i-init : goal.loop-i-init

@@ -1,7 +1,7 @@
 -- `listing::Lister::list` meets its contract: after i records the lines of i records stand in the output. Assumes nothing.
-use Rattle.std.proofs.Common.{◌≡◌, ◌-◌, ◌≤◌, rules}
+use Rattle.std.proofs.Common.{◌≡◌, ◌-◌, ◌≤◌}
 use Rattle.listing.specs.Listing.{room}
-use Rattle.listing.proofs.ListLaws.{Sofar, whole_record, none_yet, one_more, as_long, all_listed, all_short}
+use Rattle.listing.proofs.ListLaws.{Sofar}
 use Rattle.listing.proofs.Lister.list.Given as goal
 
 abbrev pub invariant-loop-i : goal.invariant-loop-i
