@@ -20,77 +20,66 @@
 // line, and each line gets it as the one before left it.
 // Any other line is answered by `bad line` and its number; a line of more than 262,143 bytes by `long line` and its number, and
 // nothing after it is read.
+#![tactic(auto)]
+
 mod cookies;
 mod steps;
 
 use ledger::Ledger;
 use lines::{output, reader, text};
+use std::io;
+use std::io::{Read, Write};
 
-// What a line leaves.
-#[derive(Clone, Copy)]
-struct After {
-    // False: nothing more can be written.
-    goes_on: bool,
-    ledger: Ledger,
+fn bad_line(out: &mut impl Write, number: u64, ledger: Ledger) -> io::Result<Ledger> {
+    output::bad_line(out, number)?;
+    Ok(ledger)
 }
 
-fn bad_line(number: u64, ledger: Ledger) -> After {
-    After {
-        goes_on: output::bad_line(number),
-        ledger,
-    }
-}
-
-// Answers one line.
-fn run_line(line: &[u8], number: u64, ledger: Ledger) -> After {
+// Answers one line, and tells the ledger that it leaves.
+fn run_line(out: &mut impl Write, line: &[u8], number: u64, ledger: Ledger) -> io::Result<Ledger> {
     if text::has_shape(line, b"step", 5) {
-        return steps::step_line(line, number, ledger);
+        return steps::step_line(out, line, number, ledger);
     }
     if text::has_shape(line, b"record", 2) {
-        return steps::record_line(line, number, ledger);
+        return steps::record_line(out, line, number, ledger);
     }
-    After {
-        goes_on: run_other(line, number, ledger),
-        ledger,
-    }
+    run_other(out, line, number, ledger)?;
+    Ok(ledger)
 }
 
-// The lines that leave the ledger as it is. False: nothing more can be written.
-fn run_other(line: &[u8], number: u64, ledger: Ledger) -> bool {
+// The lines that leave the ledger as it is.
+fn run_other(out: &mut impl Write, line: &[u8], number: u64, ledger: Ledger) -> io::Result<()> {
     if text::has_shape(line, b"making", 6) {
-        return cookies::making_line(line, number, ledger);
+        return cookies::making_line(out, line, number, ledger);
     }
     if text::has_shape(line, b"checking", 6) {
-        return cookies::checking_line(line, number, ledger);
+        return cookies::checking_line(out, line, number, ledger);
     }
     if text::is_comment(line) {
-        return output::say_line(line);
+        return output::say_line(out, line);
     }
-    output::bad_line(number)
+    output::bad_line(out, number)
 }
 
 // A proved loop has to end, and nothing says that the input does: it counts down from a number that no run uses up.
-fn run(buffer: &mut [u8]) {
+fn run(input: &mut impl Read, out: &mut impl Write, buffer: &mut [u8]) -> io::Result<()> {
     let mut cursor = reader::start();
     let mut ledger = fleet::fresh();
     let mut turns = u64::MAX;
     while 0 < turns {
-        cursor = reader::next(buffer, cursor);
+        cursor = reader::next(input, out, buffer, cursor)?;
         if !cursor.is_line {
-            return;
+            return Ok(());
         }
         let start = cursor.start;
         let end = cursor.end;
-        let after = run_line(&buffer[start..end], cursor.number, ledger);
-        if !after.goes_on {
-            return;
-        }
-        ledger = after.ledger;
+        ledger = run_line(out, &buffer[start..end], cursor.number, ledger)?;
         turns -= 1;
     }
+    Ok(())
 }
 
-fn main() {
+fn main(rt: HostRuntime) -> io::Result<()> {
     let mut buffer = [0u8; 262144];
-    run(&mut buffer);
+    run(&mut rt.stdin(), &mut rt.stdout(), &mut buffer)
 }

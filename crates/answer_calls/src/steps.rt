@@ -1,7 +1,8 @@
 // Steps: the lines step and record.
-use crate::After;
 use ledger::Ledger;
 use lines::{hex, output, text};
+use std::io;
+use std::io::Write;
 
 // KIND and MEMBER of `step KIND MEMBER TIME SECRET`, put into a record. False: they are badly written.
 fn put_head(line: &[u8], bytes: &mut [u8]) -> bool {
@@ -21,45 +22,56 @@ fn put_time(line: &[u8], bytes: &mut [u8]) -> bool {
     time.ok
 }
 
-// The line, and what came of it. False: nothing more can be written.
-fn say_answer(line: &[u8], number: u8) -> bool {
-    if !output::say(line) {
-        return false;
-    }
+// The line, and what came of it.
+fn say_answer(out: &mut impl Write, line: &[u8], number: u8) -> io::Result<()> {
+    output::say(out, line)?;
     if number == 0 {
-        return output::say(b" accepted\n");
+        return output::say(out, b" accepted\n");
     }
-    output::say_number(b" refused ", number as u64)
+    output::say_number(out, b" refused ", number as u64)
 }
 
 // Offers a record to the ledger.
-fn offer(line: &[u8], ledger: Ledger, bytes: &[u8; 32]) -> After {
+fn offer(
+    out: &mut impl Write,
+    line: &[u8],
+    ledger: Ledger,
+    bytes: &[u8; 32],
+) -> io::Result<Ledger> {
     let stepped = fleet::step(ledger, bytes);
     let answer = stepped.answer;
     let next = stepped.ledger;
-    After {
-        goes_on: say_answer(line, answer.number()),
-        ledger: next,
-    }
+    say_answer(out, line, answer.number())?;
+    Ok(next)
 }
 
 // `step KIND MEMBER TIME SECRET`
-pub fn step_line(line: &[u8], number: u64, ledger: Ledger) -> After {
+pub fn step_line(
+    out: &mut impl Write,
+    line: &[u8],
+    number: u64,
+    ledger: Ledger,
+) -> io::Result<Ledger> {
     let mut bytes = [0u8; 32];
     let is_headed = put_head(line, &mut bytes);
     let is_timed = put_time(line, &mut bytes);
     let is_filled = hex::fill(text::field(line, 4), &mut bytes[16..]);
     if is_headed & is_timed & is_filled {
-        return offer(line, ledger, &bytes);
+        return offer(out, line, ledger, &bytes);
     }
-    crate::bad_line(number, ledger)
+    crate::bad_line(out, number, ledger)
 }
 
 // `record BYTES`
-pub fn record_line(line: &[u8], number: u64, ledger: Ledger) -> After {
+pub fn record_line(
+    out: &mut impl Write,
+    line: &[u8],
+    number: u64,
+    ledger: Ledger,
+) -> io::Result<Ledger> {
     let mut bytes = [0u8; 32];
     if hex::fill(text::field(line, 1), &mut bytes) {
-        return offer(line, ledger, &bytes);
+        return offer(out, line, ledger, &bytes);
     }
-    crate::bad_line(number, ledger)
+    crate::bad_line(out, number, ledger)
 }

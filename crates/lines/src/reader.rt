@@ -1,8 +1,9 @@
-// Standard input in lines, by way of a buffer that the caller lends.
-ghost use Rattle.std.specs.Prelude.{◌≡◌, ◌<◌, ◌≤◌, length};
+// An input in lines, by way of a buffer that the caller lends.
+ghost use Rattle.std.specs.Prelude.{◌≡◌, ◌<◌, ◌≤◌, IfOk, length};
 
 use crate::{output, text};
-use libc::STDIN_FILENO;
+use std::io;
+use std::io::{ErrorKind, Read, Write};
 
 // A line, and what the buffer holds behind it.
 #[derive(Clone, Copy)]
@@ -65,51 +66,70 @@ fn last_line(number: u64, end: usize) -> Cursor
     }
 }
 
-// The next line: out of what the buffer holds, or read. A line that does not fit into the buffer and an input that fails are
-// told to the user, and then there is no line any more.
-pub fn next(buffer: &mut [u8], cursor: Cursor) -> Cursor
-    ensures { (result.start ≤ result.end) × (result.end ≤ length buffer.new) }
+// The next line: out of what the buffer holds, or read. A line that does not fit into the buffer is told to the user, and then
+// there is no line any more. An input that fails is an error.
+pub fn next(
+    input: &mut impl Read,
+    out: &mut impl Write,
+    buffer: &mut [u8],
+    cursor: Cursor,
+) -> io::Result<Cursor>
+    ensures { IfOk result (λ c. (c.start ≤ c.end) × (c.end ≤ length buffer.new)) }
 {
     let number = std::num::wrapping_add_u64(cursor.number, 1);
     let at = cursor.next;
     let have = cursor.have;
     if !cursor.more {
-        return last_line(number, 0);
+        return Ok(last_line(number, 0));
     }
     if at < have {
         if have <= buffer.len() {
             let n = text::find(&buffer[at..have], b'\n');
             if n < have - at {
-                return whole_line(number, at, at + n, have);
+                return Ok(whole_line(number, at, at + n, have));
             }
         }
     }
     let kept = text::shift(buffer, at, have);
-    read_line(buffer, kept, number)
+    read_line(input, out, buffer, kept, number)
 }
 
 // Reads behind the start of a line, which stands at the buffer's front, until the line's end is there.
-fn read_line(buffer: &mut [u8], kept: usize, number: u64) -> Cursor
-    ensures { (result.start ≤ result.end) × (result.end ≤ length buffer.new) }
+fn read_line(
+    input: &mut impl Read,
+    out: &mut impl Write,
+    buffer: &mut [u8],
+    kept: usize,
+    number: u64,
+) -> io::Result<Cursor>
+    ensures { IfOk result (λ c. (c.start ≤ c.end) × (c.end ≤ length buffer.new)) }
 {
     let mut have = kept;
     while have < buffer.len() {
-        let got = libc::read(STDIN_FILENO, &mut buffer[have..]);
-        if got < 0 {
-            os::fail(b"standard input");
-            return last_line(number, 0);
-        }
-        let count = io::count(got, &buffer[have..]);
+        let count = read_some(input, &mut buffer[have..])?;
         if count == 0 {
-            return last_line(number, have);
+            return Ok(last_line(number, have));
         }
         let all = have + count;
         let n = text::find(&buffer[have..all], b'\n');
         if n < count {
-            return whole_line(number, 0, have + n, all);
+            return Ok(whole_line(number, 0, have + n, all));
         }
         have = all;
     }
-    output::say_number(b"long line ", number);
-    last_line(number, 0)
+    output::say_number(out, b"long line ", number)?;
+    Ok(last_line(number, 0))
+}
+
+// One read, made again where a signal interrupted it, at most as often as a u64 counts.
+fn read_some(input: &mut impl Read, room: &mut [u8]) -> io::Result<usize>
+    ensures { IfOk result (λ n. n ≤ length room.new) }
+{
+    for _ in 0..u64::MAX {
+        match input.read(room) {
+            Err(error) if error.kind() == ErrorKind::Interrupted => {}
+            got => return got,
+        }
+    }
+    input.read(room)
 }

@@ -1,9 +1,5 @@
 -- What is printed, block by block, is the listing of the whole journal. Assumes nothing.
-use Prim.Native.Nat.{ℕ, ◌*◌}
-use mathlib.Core.Path.{◌≡◌, refl, sym, ap₂, ◌∙◌}
-use mathlib.Core.List.{List, [], ◌∷◌, ◌++◌, append-nil}
-use native.Mathlib.Omega.{arith}
-use lib.ListN.{length}
+use Rattle.std.proofs.Common.{ℕ, ◌*◌, ◌≡◌, refl, sym, ap₂, ◌∙◌, List, [], ◌∷◌, ◌++◌, append-nil, arith, length}
 use Rattle.listing.specs.declared.Lister.{Lister}
 use Rattle.listing.specs.Listing.{size, fresh_lister, lines_of, lister_past, listing_from}
 use Rattle.listing.proofs.Claims.{block_by_block}

@@ -1,13 +1,6 @@
--- The text of a block has room, and what stands in the output is the text. Assumes nothing.
-use Prim.Native.Nat.{ℕ, ◌+◌, ◌*◌, ◌%◌, ◌≤◌, ◌<◌}
-use mathlib.Core.Path.{◌≡◌, sym, ap, ◌∙◌}
-use mathlib.Core.Bool.{Bool, cond}
-use mathlib.Core.List.{List, ◌++◌, append-nil}
-use native.Mathlib.Omega.{arith}
+-- What stands in the output is the text of a block. Assumes nothing.
+use Rattle.std.proofs.Common.{ℕ, ◌+◌, ◌*◌, ◌%◌, ◌≤◌, ◌<◌, ◌≡◌, sym, ap, ◌∙◌, Bool, cond, List, ◌++◌, append-nil, arith, ne_eqb, length, length-append}
 use native.Mathlib.Nat.{min-eq_left}
-use borrow.Author.Tests.{ne_eqb}
-use lib.ListN.{length, take, length-append}
-use lib.Seq.{length-take-le}
 use Rattle.octets.specs.Runs.{written}
 use Rattle.octets.proofs.RunLaws.{length_written}
 use Rattle.rows.specs.Rows.{short_line, longest, ◌leaving◌, placed}
@@ -83,12 +76,3 @@ module _ (at : Lister) (bytes before : List ℕ) (roomy : Roomy bytes before) wh
         ends = b.1 ∙ ap length text;
         within = omega (arith, long, b.1, length-append lines line, stand.ends, stand.within, short);
       }
-
--- ---- the part of a block that was read
-
-pub part_counts : (n : ℕ) (block : List ℕ) → n ≤ length block → n ≡ length (take n block)
-part_counts n block within = sym (length-take-le n block within)
-
--- there is room for it, if there was for the whole
-pub part_roomy : (n : ℕ) (block later output : List ℕ) → length later ≡ length block → n ≤ length later → Roomy block output → Roomy (take n later) output
-part_roomy n block later output same within roomy = omega (arith, length-take-le n later within)

@@ -1,10 +1,13 @@
-// The journal lister: lists standard input to standard output, block by block.
-ghost use Rattle.std.specs.Prelude.{◌≡◌, cond, ◌≤◌, ◌<◌, ◌/◌, ◌%◌, length};
+// The journal lister: lists an input to an output, block by block.
+#![tactic(auto)]
+
+ghost use Rattle.std.specs.Prelude.{◌≡◌, cond, ◌≤◌, ◌<◌, ◌/◌, ◌%◌, IfOk, length};
 ghost use Rattle.listing.specs.Listing.{size, lister_past};
 ghost use Rattle.list_input.specs.Text.{Whole, Roomy, is_end, FilledTo, PutOf};
 
-use libc::{STDIN_FILENO, STDOUT_FILENO};
 use listing::Lister;
+use std::io;
+use std::io::{ErrorKind, Read, Write};
 
 // Bytes of a block: whole records, so that leftover bytes exist only at the end of the input.
 const BLOCK: usize = 65536;
@@ -20,53 +23,55 @@ enum Rest {
     Failure,
 }
 
+// How far a block was filled, and the error if a read failed.
 #[derive(Clone, Copy)]
 struct Filled {
     count: usize,
     rest: Rest,
+    read: io::Result<()>,
 }
 
 // One read, made again where a signal interrupted it, at most as often as a u64 counts.
-fn read_some(room: &mut [u8]) -> isize {
-    let mut tries = u64::MAX;
-    while 0 < tries {
-        let got = libc::read(STDIN_FILENO, room);
-        if 0 <= got {
-            return got;
+fn read_some(input: &mut impl Read, room: &mut [u8]) -> io::Result<usize>
+    ensures { IfOk result (λ n. n ≤ length room.new) }
+{
+    for _ in 0..u64::MAX {
+        match input.read(room) {
+            Err(error) if error.kind() == ErrorKind::Interrupted => {}
+            got => return got,
         }
-        if os::errno() != libc::EINTR {
-            return got;
-        }
-        tries -= 1;
     }
-    -1
+    input.read(room)
 }
 
 // Reads until the block is full or there is no more, since a pipe hands over what it has.
-fn fill(block: &mut [u8]) -> Filled
+fn fill(input: &mut impl Read, block: &mut [u8]) -> Filled
     ensures { (result.count ≤ length block.new) × FilledTo result.rest result.count block.new }
 {
     let mut have = 0;
     while have < block.len() {
-        let got = read_some(&mut block[have..]);
-        if got < 0 {
-            return Filled {
-                count: have,
-                rest: Rest::Failure,
-            };
+        match read_some(input, &mut block[have..]) {
+            Err(error) => {
+                return Filled {
+                    count: have,
+                    rest: Rest::Failure,
+                    read: Err(error),
+                };
+            }
+            Ok(0) => {
+                return Filled {
+                    count: have,
+                    rest: Rest::Nothing,
+                    read: Ok(()),
+                };
+            }
+            Ok(count) => have += count,
         }
-        let count = io::count(got, &block[have..]);
-        if count == 0 {
-            return Filled {
-                count: have,
-                rest: Rest::Nothing,
-            };
-        }
-        have += count;
     }
     Filled {
         count: have,
         rest: Rest::More,
+        read: Ok(()),
     }
 }
 
@@ -107,23 +112,25 @@ fn put_block(lister: Lister, block: &[u8], output: &mut [u8], last: bool) -> Put
     }
 }
 
-// False: nothing more can be written, and the user was told.
-fn say(lines: &[u8]) -> bool {
-    let is_written = io::write_all(STDOUT_FILENO, lines);
-    if !is_written {
-        os::fail(b"standard output");
-    }
-    is_written
+// Writes the lines whole, or fails.
+fn say(out: &mut impl Write, lines: &[u8]) -> io::Result<()> {
+    out.write_all(lines)
 }
 
 // The lister after a block, and whether its text was written.
 #[derive(Clone, Copy)]
 struct Said {
     lister: Lister,
-    ok: bool,
+    written: io::Result<()>,
 }
 
-fn say_block(lister: Lister, block: &[u8], output: &mut [u8], last: bool) -> Said
+fn say_block(
+    out: &mut impl Write,
+    lister: Lister,
+    block: &[u8],
+    output: &mut [u8],
+    last: bool,
+) -> Said
     requires { Roomy block.now output.old }
     ensures { result.lister ≡ lister_past (length block.now / size) lister block.now }
 {
@@ -132,7 +139,7 @@ fn say_block(lister: Lister, block: &[u8], output: &mut [u8], last: bool) -> Sai
     let end = put.end;
     Said {
         lister: after,
-        ok: say(&output[..end]),
+        written: say(out, &output[..end]),
     }
 }
 
@@ -146,44 +153,44 @@ fn is_end(rest: Rest) -> bool
     }
 }
 
-// Whether there is more to read. If that is not known the user is told.
+// Whether there is more to read.
 fn goes_on(rest: Rest) -> bool {
     match rest {
         Rest::More => true,
-        Rest::Nothing => false,
-        Rest::Failure => {
-            os::fail(b"standard input");
-            false
-        }
+        Rest::Nothing | Rest::Failure => false,
     }
 }
 
 // A proved loop has to end, and nothing says that the input does: it counts down from a number that no run uses up.
-fn list_blocks(block: &mut [u8], output: &mut [u8])
+fn list_blocks(
+    input: &mut impl Read,
+    out: &mut impl Write,
+    block: &mut [u8],
+    output: &mut [u8],
+) -> io::Result<()>
     requires whole { Whole block.old }
     requires roomy { Roomy block.old output.old }
 {
     let mut lister = Lister::fresh();
     let mut turns = u64::MAX;
     while 0 < turns {
-        let filled = fill(block);
+        let filled = fill(input, block);
         let count = filled.count;
         let rest = filled.rest;
-        let said = say_block(lister, &block[..count], output, is_end(rest));
-        if !said.ok {
-            return;
-        }
+        let said = say_block(out, lister, &block[..count], output, is_end(rest));
+        said.written?;
         if !goes_on(rest) {
-            return;
+            return filled.read;
         }
         lister = said.lister;
         turns -= 1;
     }
+    Ok(())
 }
 
-// Lists the journal that standard input is.
-pub fn run() {
+// Lists the journal that the input is. If a read fails, the whole records that were read are listed before the error.
+pub fn run(input: &mut impl Read, out: &mut impl Write) -> io::Result<()> {
     let mut block = [0u8; BLOCK];
     let mut output = [0u8; OUTPUT];
-    list_blocks(&mut block, &mut output);
+    list_blocks(input, out, &mut block, &mut output)
 }

@@ -10,6 +10,10 @@
 //
 // If standard input cannot be read to its end, the whole records that were read are listed, without such a line, and standard error
 // says why.
-fn main() {
-    list_input::run();
+#![tactic(auto)]
+
+use std::io;
+
+fn main(rt: HostRuntime) -> io::Result<()> {
+    list_input::run(&mut rt.stdin(), &mut rt.stdout())
 }

@@ -9,75 +9,75 @@
 // its size, as `(65535 bytes)`. A comment, `# ..`, is printed as it is, and so is an empty line.
 // Any other line is answered by `bad line` and its number; a line of more than 262,143 bytes, which is a message of 131,072 or
 // more, by `long line` and its number, and nothing after it is read.
+#![tactic(auto)]
+
 use edns::Cookie;
 use lines::{hex, output, reader, text};
 use request::Reading;
+use std::io;
+use std::io::{Read, Write};
 
 fn wide(count: u16) -> u64 {
     count as u64
 }
 
-fn say_cookie(qdcount: u16, cookie: Cookie) -> bool {
-    if !output::say_field(b" cookie ", wide(qdcount)) {
-        return false;
-    }
-    if !output::say_field(b" ", cookie.start as u64) {
-        return false;
-    }
-    output::say_field(b" ", cookie.end as u64)
+fn say_cookie(out: &mut impl Write, qdcount: u16, cookie: Cookie) -> io::Result<()> {
+    output::say_field(out, b" cookie ", wide(qdcount))?;
+    output::say_field(out, b" ", cookie.start as u64)?;
+    output::say_field(out, b" ", cookie.end as u64)
 }
 
-fn say_reading(reading: Reading) -> bool {
+fn say_reading(out: &mut impl Write, reading: Reading) -> io::Result<()> {
     match reading {
-        Reading::Refused(refusal) => output::say_refused(request::refusal_number(refusal)),
-        Reading::NoCookie { qdcount } => output::say_field(b" none ", wide(qdcount)),
-        Reading::CookieAt { qdcount, cookie } => say_cookie(qdcount, cookie),
+        Reading::Refused(refusal) => output::say_refused(out, request::refusal_number(refusal)),
+        Reading::NoCookie { qdcount } => output::say_field(out, b" none ", wide(qdcount)),
+        Reading::CookieAt { qdcount, cookie } => say_cookie(out, qdcount, cookie),
     }
 }
 
-fn answer(line: &[u8], message: &[u8]) -> bool {
-    if !output::say_message(line, message.len()) {
-        return false;
-    }
-    if !say_reading(request::read(message)) {
-        return false;
-    }
-    output::say_last(request::cookie_body(message))
+fn answer(out: &mut impl Write, line: &[u8], message: &[u8]) -> io::Result<()> {
+    output::say_message(out, line, message.len())?;
+    say_reading(out, request::read(message))?;
+    output::say_last(out, request::cookie_body(message))
 }
 
-// Answers one line. False: nothing more can be written.
-fn run_line(line: &[u8], number: u64, bytes: &mut [u8]) -> bool {
+// Answers one line.
+fn run_line(out: &mut impl Write, line: &[u8], number: u64, bytes: &mut [u8]) -> io::Result<()> {
     if text::is_comment(line) {
-        return output::say_line(line);
+        return output::say_line(out, line);
     }
     let message = hex::decode(line, bytes);
     if !message.ok {
-        return output::bad_line(number);
+        return output::bad_line(out, number);
     }
     let n = message.count;
-    answer(line, &bytes[0..n])
+    answer(out, line, &bytes[0..n])
 }
 
 // A proved loop has to end, and nothing says that the input does: it counts down from a number that no run uses up.
-fn run(buffer: &mut [u8], bytes: &mut [u8]) {
+fn run(
+    input: &mut impl Read,
+    out: &mut impl Write,
+    buffer: &mut [u8],
+    bytes: &mut [u8],
+) -> io::Result<()> {
     let mut cursor = reader::start();
     let mut turns = u64::MAX;
     while 0 < turns {
-        cursor = reader::next(buffer, cursor);
+        cursor = reader::next(input, out, buffer, cursor)?;
         if !cursor.is_line {
-            return;
+            return Ok(());
         }
         let start = cursor.start;
         let end = cursor.end;
-        if !run_line(&buffer[start..end], cursor.number, bytes) {
-            return;
-        }
+        run_line(out, &buffer[start..end], cursor.number, bytes)?;
         turns -= 1;
     }
+    Ok(())
 }
 
-fn main() {
+fn main(rt: HostRuntime) -> io::Result<()> {
     let mut buffer = [0u8; 262144];
     let mut bytes = [0u8; 131072];
-    run(&mut buffer, &mut bytes);
+    run(&mut rt.stdin(), &mut rt.stdout(), &mut buffer, &mut bytes)
 }

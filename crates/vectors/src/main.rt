@@ -18,9 +18,13 @@
 // bytes, ADDRESS and a BODY to keep up to 64.
 // Any other line is answered by `bad line` and its number; a line of more than 262,143 bytes by `long line` and its number, and
 // nothing after it is read.
+#![tactic(auto)]
+
 mod cookies;
 
 use lines::{fields, hex, output, reader, text};
+use std::io;
+use std::io::{Read, Write};
 
 // What a line asks for.
 #[derive(Clone, Copy)]
@@ -35,18 +39,16 @@ enum Verb {
 }
 
 // `siphash24 KEY MESSAGE`
-fn hash_line(line: &[u8], number: u64, bytes: &mut [u8]) -> bool {
+fn hash_line(out: &mut impl Write, line: &[u8], number: u64, bytes: &mut [u8]) -> io::Result<()> {
     let key = fields::secret(text::field(line, 1));
     let message = hex::decode(text::field(line, 2), bytes);
     if !(key.ok & message.ok & (text::fields(line) == 3)) {
-        return output::bad_line(number);
+        return output::bad_line(out, number);
     }
-    if !output::say(line) {
-        return false;
-    }
+    output::say(out, line)?;
     let n = message.count;
     let secret = key.secret;
-    output::say_last(&siphash::siphash24_bytes(secret, &bytes[0..n]))
+    output::say_last(out, &siphash::siphash24_bytes(secret, &bytes[0..n]))
 }
 
 fn verb_of(line: &[u8]) -> Verb {
@@ -72,39 +74,43 @@ fn verb_of(line: &[u8]) -> Verb {
     Verb::Unknown
 }
 
-// Answers one line. False: nothing more can be written.
-fn run_line(line: &[u8], number: u64, bytes: &mut [u8]) -> bool {
+// Answers one line.
+fn run_line(out: &mut impl Write, line: &[u8], number: u64, bytes: &mut [u8]) -> io::Result<()> {
     match verb_of(line) {
-        Verb::Comment => output::say_line(line),
-        Verb::Hash => hash_line(line, number, bytes),
-        Verb::Judge => cookies::judge_line(line, number, bytes),
-        Verb::Fresh => cookies::fresh_line(line, number, bytes),
-        Verb::Kept => cookies::kept_line(line, number, bytes),
-        Verb::Body => cookies::body_line(line, number, bytes),
-        Verb::Unknown => output::bad_line(number),
+        Verb::Comment => output::say_line(out, line),
+        Verb::Hash => hash_line(out, line, number, bytes),
+        Verb::Judge => cookies::judge_line(out, line, number, bytes),
+        Verb::Fresh => cookies::fresh_line(out, line, number, bytes),
+        Verb::Kept => cookies::kept_line(out, line, number, bytes),
+        Verb::Body => cookies::body_line(out, line, number, bytes),
+        Verb::Unknown => output::bad_line(out, number),
     }
 }
 
 // A proved loop has to end, and nothing says that the input does: it counts down from a number that no run uses up.
-fn run(buffer: &mut [u8], bytes: &mut [u8]) {
+fn run(
+    input: &mut impl Read,
+    out: &mut impl Write,
+    buffer: &mut [u8],
+    bytes: &mut [u8],
+) -> io::Result<()> {
     let mut cursor = reader::start();
     let mut turns = u64::MAX;
     while 0 < turns {
-        cursor = reader::next(buffer, cursor);
+        cursor = reader::next(input, out, buffer, cursor)?;
         if !cursor.is_line {
-            return;
+            return Ok(());
         }
         let start = cursor.start;
         let end = cursor.end;
-        if !run_line(&buffer[start..end], cursor.number, bytes) {
-            return;
-        }
+        run_line(out, &buffer[start..end], cursor.number, bytes)?;
         turns -= 1;
     }
+    Ok(())
 }
 
-fn main() {
+fn main(rt: HostRuntime) -> io::Result<()> {
     let mut buffer = [0u8; 262144];
     let mut bytes = [0u8; 131072];
-    run(&mut buffer, &mut bytes);
+    run(&mut rt.stdin(), &mut rt.stdout(), &mut buffer, &mut bytes)
 }
