@@ -74,7 +74,8 @@ pub fn next(
     buffer: &mut [u8],
     cursor: Cursor,
 ) -> io::Result<Cursor>
-    ensures { IfOk result (λ c. (c.start ≤ c.end) × (c.end ≤ length buffer.new)) }
+    ensures line { IfOk result (λ c. (c.start ≤ c.end) × (c.end ≤ length buffer.new)) }
+    ensures kept { length buffer.new ≡ length buffer.old }
 {
     let number = std::num::wrapping_add_u64(cursor.number, 1);
     let at = cursor.next;
@@ -102,7 +103,8 @@ fn read_line(
     kept: usize,
     number: u64,
 ) -> io::Result<Cursor>
-    ensures { IfOk result (λ c. (c.start ≤ c.end) × (c.end ≤ length buffer.new)) }
+    ensures line { IfOk result (λ c. (c.start ≤ c.end) × (c.end ≤ length buffer.new)) }
+    ensures kept { length buffer.new ≡ length buffer.old }
 {
     let mut have = kept;
     while have < buffer.len() {
