@@ -1,5 +1,5 @@
-# run, calls, answer, vectors, test, lib: the toolchain is enough. example and bench also need a C compiler, differential python3,
-# OpenSSL 3, rustc and valgrind, installation a C++ compiler and pkg-config.
+# run, calls, answer, vectors, test: the toolchain is enough, and lib also needs ar. example and bench also need a C compiler, differential
+# python3, OpenSSL 3, rustc and valgrind, installation a C++ compiler and pkg-config.
 JOURNAL = crates/list_journal/stdin
 VECTORS = crates/vectors/stdin
 REQUESTS = crates/answer_requests/stdin
@@ -33,9 +33,11 @@ test:
 
 build: build-vectors build-read_requests build-answer_requests build-answer_calls build-list_journal
 
+# Proves and builds a program. rt also runs what it has built, here on no input.
 build-%:
-	@mkdir -p target
-	@rt check $* >target/$*.log 2>&1 || { cat target/$*.log; exit 1; }
+	@mkdir -p target/bin
+	@(cd crates/$* && rt run </dev/null) >target/$*.log 2>&1 || { cat target/$*.log; exit 1; }
+	@install crates/$*/out/$* target/bin/
 
 # A program's stored output, and COUNT random lines or records from SEED, against an independent implementation; then how often each
 # kind of answer came: a 0 there is an answer that they never reached.
@@ -79,14 +81,15 @@ pkgconfig = sed 's|@PREFIX@|$(abspath $(PREFIX))|; s|@VERSION@|$(version)|' dnsc
 .PHONY: lib install example installation
 
 # Proves the library and puts it under target/, with its header and a pkg-config file for PREFIX. Where it isn't proved nothing is there.
+# It is compiled for any x86-64: rt's own choice is a newer one, and a library doesn't test where it runs.
 # dnscookie_find is compiled by itself and joined: the parser is then laid into it and into dnscookie_respond, and both are faster.
 lib:
 	@rm -rf target/lib target/include
 	@mkdir -p target/lib/pkgconfig target/include
-	@rt staticlib dnscookie >target/dnscookie.log 2>&1 || { cat target/dnscookie.log; exit 1; }
-	@rt staticlib dnscookie_find >target/dnscookie.log 2>&1 || { cat target/dnscookie.log; exit 1; }
-	@cp target/staticlib/libdnscookie.a target/lib/
-	@cd target/lib && ar x ../staticlib/libdnscookie_find.a && ar rs libdnscookie.a dnscookie_find.o 2>/dev/null && rm dnscookie_find.o
+	@(cd crates/dnscookie && rt lib --cpu x86-64) >target/dnscookie.log 2>&1 || { cat target/dnscookie.log; exit 1; }
+	@(cd crates/dnscookie_find && rt lib --cpu x86-64) >target/dnscookie.log 2>&1 || { cat target/dnscookie.log; exit 1; }
+	@cp crates/dnscookie/out/libdnscookie.a target/lib/
+	@cd target/lib && ar x ../../crates/dnscookie_find/out/libdnscookie_find.a && ar rs libdnscookie.a dnscookie_find.o 2>/dev/null && rm dnscookie_find.o
 	@cp include/dnscookie.h target/include/
 	@$(pkgconfig) >target/lib/pkgconfig/dnscookie.pc
 
