@@ -86,10 +86,10 @@ pkgconfig = sed 's|@PREFIX@|$(abspath $(PREFIX))|; s|@VERSION@|$(version)|' dnsc
 lib:
 	@rm -rf target/lib target/include
 	@mkdir -p target/lib/pkgconfig target/include
-	@(cd crates/dnscookie && rt lib --cpu x86-64) >target/dnscookie.log 2>&1 || { cat target/dnscookie.log; exit 1; }
-	@(cd crates/dnscookie_find && rt lib --cpu x86-64) >target/dnscookie.log 2>&1 || { cat target/dnscookie.log; exit 1; }
-	@cp crates/dnscookie/out/libdnscookie.a target/lib/
-	@cd target/lib && ar x ../../crates/dnscookie_find/out/libdnscookie_find.a && ar rs libdnscookie.a dnscookie_find.o 2>/dev/null && rm dnscookie_find.o
+	@(cd crates/dnscookie_c && rt lib --cpu x86-64) >target/dnscookie.log 2>&1 || { cat target/dnscookie.log; exit 1; }
+	@(cd crates/dnscookie_find_c && rt lib --cpu x86-64) >target/dnscookie.log 2>&1 || { cat target/dnscookie.log; exit 1; }
+	@cd target/lib && ar x ../../crates/dnscookie_c/out/libdnscookie_c.a && ar x ../../crates/dnscookie_find_c/out/libdnscookie_find_c.a
+	@cd target/lib && ar rcs libdnscookie.a dnscookie_c.o dnscookie_find_c.o && rm dnscookie_c.o dnscookie_find_c.o
 	@cp include/dnscookie.h target/include/
 	@$(pkgconfig) >target/lib/pkgconfig/dnscookie.pc
 
