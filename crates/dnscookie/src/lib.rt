@@ -1,6 +1,7 @@
-// The library for C: include/dnscookie.h says it in C's words. Each exported function is thin over the crates below (judge says why it is
-// less so) and takes every argument: numbers, and runs of bytes with their lengths. What C can't hand over as it is meant, such as a
-// secret that is not 16 bytes, is refused with a number of its own (specs/Words). Nothing is kept between calls. dnscookie_find is a crate of its own.
+// The library for C: include/dnscookie.h says it in C's words. Each function that it names is thin over the crates below (judge says why
+// it is less so) and takes every argument: numbers, and runs of bytes with their lengths. What C can't hand over as it is meant, such as
+// a secret that is not 16 bytes, is refused with a number of its own (specs/Words). Nothing is kept between calls. dnscookie_c exports
+// them; dnscookie_find is a crate of its own.
 #![tactic(auto)]
 
 mod arguments;
