@@ -2,20 +2,22 @@
 //
 //     MODE GENERATING OTHER CLOCK ADDRESS OUTPUT MESSAGE
 //
-// MODE is disabled, enabled or enforced, GENERATING a secret of 16 bytes, OTHER another or `-`, CLOCK 4 bytes, ADDRESS the
-// client's, of up to 64 bytes, OUTPUT what the buffer holds that is lent for the reply's option, up to 65,535 bytes, and MESSAGE
-// the request. Bytes are in hexadecimal, and `-` is none; numbers are big-endian. Behind the line stands one of
+// MODE is disabled, enabled or enforced, GENERATING a secret of 16 bytes, OTHER another or `-`, CLOCK 4 bytes,
+// ADDRESS the client's, of up to 64 bytes, OUTPUT what the buffer holds that is lent for the reply's option, up to
+// 65,535 bytes, and MESSAGE the request. Bytes are in hexadecimal, and `-` is none; numbers are big-endian. Behind
+// the line stands one of
 //
-//     refused NUMBER OWED AFTERWARDS             refused, by document 01's number, 1 to 10. OWED is what the sender is owed:
-//                                                nothing, formerr or badvers; or caller, where the fault is the caller's
-//     VERDICT ACTION OPTION AFTERWARDS           the verdict on its cookie (a good one with its age and which secret matched),
-//                                                what the reply is (serve, badcookie, truncate) and the option in it (none,
-//                                                fresh, kept)
+//     refused NUMBER OWED AFTERWARDS      refused, by document 01's number, 1 to 10. OWED is what the sender is owed:
+//                                         nothing, formerr or badvers; or caller, where the fault is the caller's
+//     VERDICT ACTION OPTION AFTERWARDS    the verdict on its cookie (a good one with its age and which secret
+//                                         matched), what the reply is (serve, badcookie, truncate) and the option in
+//                                         it (none, fresh, kept)
 //
-// AFTERWARDS is the whole of the lent buffer then, in hexadecimal, and `-` if it has no bytes. A message of more than 512 bytes is
-// not printed again, but its size, as `(65535 bytes)`. A comment, `# ..`, is printed as it is, and so is an empty line.
-// Any other line is answered by `bad line` and its number; a line of more than 262,143 bytes by `long line` and its number, and
-// nothing after it is read.
+// AFTERWARDS is the whole of the lent buffer then, in hexadecimal, and `-` if it has no bytes. A message of more than
+// 512 bytes is not printed again, but its size, as `(65535 bytes)`. A comment, `# ..`, is printed as it is, and so is
+// an empty line.
+// Any other line is answered by `bad line` and its number; a line of more than 262,143 bytes by `long line` and its
+// number, and nothing after it is read.
 #![tactic(auto)]
 
 use lines::fields::SettingField;

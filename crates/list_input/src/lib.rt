@@ -1,7 +1,7 @@
 // The journal lister: lists an input to an output, block by block.
 #![tactic(auto)]
 
-ghost use Rattle.std.specs.Prelude.{◌≡◌, cond, ◌≤◌, ◌<◌, ◌/◌, ◌%◌, IfOk, length};
+ghost use Rattle.std.specs.Prelude.{◌≡◌, cond, ◌≤◌, ◌<◌, ◌/◌, ◌%◌, ◌↔◌, IfOk, IsErr, length};
 ghost use Rattle.listing.specs.Listing.{size, lister_past};
 ghost use Rattle.list_input.specs.Text.{Whole, Roomy, is_end, FilledTo, PutOf};
 
@@ -46,7 +46,8 @@ fn read_some(input: &mut impl Read, room: &mut [u8]) -> io::Result<usize>
 
 // Reads until the block is full or there is no more, since a pipe hands over what it has.
 fn fill(input: &mut impl Read, block: &mut [u8]) -> Filled
-    ensures { (result.count ≤ length block.new) × FilledTo result.rest result.count block.new }
+    ensures filled { (result.count ≤ length block.new) × FilledTo result.rest result.count block.new }
+    ensures failed { IsErr result.read ↔ (result.rest ≡ Rest.Failure) }
 {
     let mut have = 0;
     while have < block.len() {

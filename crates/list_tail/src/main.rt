@@ -1,5 +1,6 @@
-// crates/list_journal, run on a second stored journal, since a program has one stored run: every byte as a kind, every refusal, alone and
-// with others, a rollover that is open where one block ends and the next begins, and leftover bytes at the end.
+// crates/list_journal, run on a second stored journal, since a program has one stored run: every byte as a kind,
+// every refusal, alone and with others, a rollover that is open where one block ends and the next begins, and
+// leftover bytes at the end.
 #![tactic(auto)]
 
 use std::io;

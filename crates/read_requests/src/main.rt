@@ -1,14 +1,15 @@
-// Reads requests from standard input, one DNS message to a line in hexadecimal, and prints each again with what came of it.
+// Reads requests from standard input, one DNS message to a line in hexadecimal, and prints each again with its answer.
 //
 //     MESSAGE refused NUMBER -                   refused, by document 01's number, 3 to 10
 //     MESSAGE none QDCOUNT -                     no COOKIE option
 //     MESSAGE cookie QDCOUNT START END BODY      a COOKIE option: its body lies from START up to END in the message
 //
-// The last field is the part of the message that the finder hands back, in hexadecimal: `-`, none, is right for the first two.
-// The other numbers are decimal. A line `-` is a message of no bytes. A message of more than 512 bytes is not printed again, but
-// its size, as `(65535 bytes)`. A comment, `# ..`, is printed as it is, and so is an empty line.
-// Any other line is answered by `bad line` and its number; a line of more than 262,143 bytes, which is a message of 131,072 or
-// more, by `long line` and its number, and nothing after it is read.
+// The last field is the part of the message that the finder hands back, in hexadecimal: `-`, none, is right for the
+// first two. The other numbers are decimal. A line `-` is a message of no bytes. A message of more than 512 bytes is
+// not printed again, but its size, as `(65535 bytes)`. A comment, `# ..`, is printed as it is, and so is an empty
+// line.
+// Any other line is answered by `bad line` and its number; a line of more than 262,143 bytes, which is a message of
+// 131,072 or more, by `long line` and its number, and nothing after it is read.
 #![tactic(auto)]
 
 use edns::Cookie;

@@ -1,23 +1,24 @@
-// Runs the compiled code on vectors from standard input, one to a line, and prints each line again with what came of it.
+// Runs the compiled code on vectors from standard input, one to a line, and prints each line again with its answer.
 //
 //     siphash24 KEY MESSAGE    SipHash-2-4 of MESSAGE under KEY, 16 bytes: the hash, as its eight bytes
 //     judge MODE QDCOUNT GENERATING OTHER CLOCK ADDRESS BODY
 //                              a request's COOKIE body, judged. MODE is disabled, enabled or enforced, QDCOUNT 2 bytes,
 //                              GENERATING a secret of 16 bytes, OTHER another or `-`, CLOCK 4 bytes. A BODY `none` is a
-//                              request without a COOKIE option, whose ADDRESS is not looked at. The answer is `refused` and
-//                              document 01's number, or the verdict (a good one with its age and which secret matched),
-//                              what the reply is (serve, badcookie, truncate) and the option in it (none, fresh, kept)
+//                              request without a COOKIE option, whose ADDRESS is not looked at. The answer is
+//                              `refused` and document 01's number, or the verdict (a good one with its age and which
+//                              secret matched), what the reply is (serve, badcookie, truncate) and the option in it
+//                              (none, fresh, kept)
 //     fresh OUTPUT SECRET CLOCK ADDRESS CLIENT
-//                              a fresh COOKIE option for the client cookie CLIENT, 8 bytes, written into a buffer that held
-//                              OUTPUT: the refusal, 0 for none, and the buffer afterwards
+//                              a fresh COOKIE option for the client cookie CLIENT, 8 bytes, written into a buffer that
+//                              held OUTPUT: the refusal, 0 for none, and the buffer afterwards
 //     kept OUTPUT BODY         a COOKIE body written likewise, as it came
 //     body BUFFER              the body of the COOKIE option that a buffer starts with
 //     # ..                     a comment, printed as it is, and so is an empty line
 //
-// Bytes are in hexadecimal, and `-` is none; numbers are big-endian. OUTPUT, BUFFER and a BODY to judge have up to 65,535
-// bytes, ADDRESS and a BODY to keep up to 64.
-// Any other line is answered by `bad line` and its number; a line of more than 262,143 bytes by `long line` and its number, and
-// nothing after it is read.
+// Bytes are in hexadecimal, and `-` is none; numbers are big-endian. OUTPUT, BUFFER and a BODY to judge have up to
+// 65,535 bytes, ADDRESS and a BODY to keep up to 64.
+// Any other line is answered by `bad line` and its number; a line of more than 262,143 bytes by `long line` and its
+// number, and nothing after it is read.
 #![tactic(auto)]
 
 mod cookies;

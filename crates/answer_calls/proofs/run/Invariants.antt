@@ -1,4 +1,5 @@
--- `answer_calls::run` is safe and ends. The measure is the number of turns that are left; the buffer keeps its length. Assumes nothing.
+-- `answer_calls::run` is safe and ends. The measure is the number of turns that are left; the buffer keeps its
+-- length. Assumes nothing.
 use Rattle.std.proofs.Common.{length, ◌≡◌}
 use Rattle.answer_calls.proofs.run.Given as goal
 

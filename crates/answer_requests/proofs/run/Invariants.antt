@@ -1,4 +1,5 @@
--- `answer_requests::run` is safe and ends. The measure is the number of turns that are left; each buffer keeps its length. Assumes nothing.
+-- `answer_requests::run` is safe and ends. The measure is the number of turns that are left; each buffer keeps its
+-- length. Assumes nothing.
 use Rattle.std.proofs.Common.{length, ◌≡◌}
 use Rattle.answer_requests.proofs.run.Given as goal
 

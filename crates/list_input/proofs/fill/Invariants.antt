@@ -1,4 +1,5 @@
--- `list_input::fill` meets its contract and ends: each turn reads at least a byte. The block keeps its length. Assumes nothing.
+-- `list_input::fill` meets its contract and ends: each turn reads at least a byte. The block keeps its length.
+-- Assumes nothing.
 use Rattle.std.proofs.Common.{◌-◌, ◌≤◌, length, ◌≡◌}
 use Rattle.list_input.proofs.fill.Given as goal
 

@@ -1,4 +1,5 @@
--- `list_input::list_blocks` is safe and ends. The measure is the number of turns that are left; both buffers keep their lengths, and so the output its room. Assumes nothing.
+-- `list_input::list_blocks` is safe and ends. The measure is the number of turns that are left; both buffers keep
+-- their lengths, and so the output its room. Assumes nothing.
 use Rattle.std.proofs.Common.{length, ◌≡◌}
 use Rattle.list_input.specs.Text.{Roomy}
 use Rattle.list_input.proofs.list_blocks.Given as goal

@@ -1,4 +1,5 @@
--- `read_requests::run` is safe and ends. The measure is the number of turns that are left; both buffers keep their length. Assumes nothing.
+-- `read_requests::run` is safe and ends. The measure is the number of turns that are left; both buffers keep their
+-- length. Assumes nothing.
 use Rattle.std.proofs.Common.{length, ◌≡◌}
 use Rattle.read_requests.proofs.run.Given as goal
 

@@ -1,4 +1,5 @@
--- `vectors::run` is safe and ends. The measure is the number of turns that are left; both buffers keep their length. Assumes nothing.
+-- `vectors::run` is safe and ends. The measure is the number of turns that are left; both buffers keep their length.
+-- Assumes nothing.
 use Rattle.std.proofs.Common.{length, ◌≡◌}
 use Rattle.vectors.proofs.run.Given as goal
 

@@ -1,4 +1,5 @@
--- `lines::reader::read_line` meets its contract and ends: each turn reads at least a byte. The buffer keeps its length. Assumes nothing.
+-- `lines::reader::read_line` meets its contract and ends: each turn reads at least a byte. The buffer keeps its
+-- length. Assumes nothing.
 use Rattle.std.proofs.Common.{◌≡◌, ◌-◌, length}
 use Rattle.lines.proofs.reader.read_line.Given as goal
 
