@@ -8,7 +8,7 @@ use std::io::Write;
 // Messages of up to so many bytes are printed again.
 const SHOWN: usize = 512;
 
-// Writes all of the words, or fails.
+// Writes all of the words, or fails; then a part of them may be written.
 pub fn say(out: &mut impl Write, words: &[u8]) -> io::Result<()> {
     out.write_all(words)
 }

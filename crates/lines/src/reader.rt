@@ -67,7 +67,8 @@ fn last_line(number: u64, end: usize) -> Cursor
 }
 
 // The next line: out of what the buffer holds, or read. A line that does not fit into the buffer is told to the user,
-// and then there is no line any more. An input that fails is an error.
+// and then there is no line any more. An input that fails is an error, and then there is none either: the buffer keeps
+// its length, but what it holds has moved, and the cursor does not fit it any more.
 pub fn next(
     input: &mut impl Read,
     out: &mut impl Write,

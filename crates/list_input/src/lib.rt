@@ -189,7 +189,8 @@ fn list_blocks(
     Ok(())
 }
 
-// Lists the journal that the input is. If a read fails, the whole records that were read are listed before the error.
+// Lists the journal that the input is. If a read fails, the whole records that were read are listed before the error;
+// if a write fails, a part of the listing is written.
 pub fn run(input: &mut impl Read, out: &mut impl Write) -> io::Result<()> {
     let mut block = [0u8; BLOCK];
     let mut output = [0u8; OUTPUT];
