@@ -1,12 +1,15 @@
 #!/usr/bin/env python3
-"""Spells this repository's own definitions and lemmas in snake case, once, after the port's own script.
+"""Spells this repository's own definitions and lemmas in snake case, after the toolchain's port.py.
 
-usage: python3 tools/respell.py [--check]        at the top of the repository; --check prints the table and writes nothing
+It ran once (docs/PORT.md), and is kept so that what was ported can be compared with what had landed.
 
-What specs/ and proofs/ declare in lower case, as isGood or good-one, becomes is_good and good_one, wherever it stands: in specs/,
-proofs/, clauses, imports, comments. A lemma that would have the name of a definition ends in _lem. Kept as they are: names of src/, which
-a clause may cite, the answers that a function's Proof.antt gives to goals, and strings. The edits of must-fail/ are turned as well, from the
-spelling that they had: paths, projections and words of the library too.
+usage: python3 tools/respell.py [--check]     at the top of the repository; --check prints the table and writes nothing
+
+What specs/ and proofs/ declare in lower case, as isGood or good-one, becomes is_good and good_one, wherever it stands:
+in specs/, proofs/, clauses, imports, comments. Where that is a definition's name, a lemma ends in _lem, and what is
+declared inside something else, as a field of a claim, in _case. Kept as they are: names of src/, which a clause may
+cite, the answers that a function's Proof.antt gives to goals, and strings. The edits of must-fail/ are turned as well,
+from the spelling that they had: paths, projections and words of the library too.
 """
 
 import os
@@ -14,12 +17,20 @@ import re
 import sys
 
 NAME = r"[^\s(){}.;,@\"«»\x60]+"
-DECLARED = re.compile(rf"^( *)((?:(?:pub|abbrev|unfoldable|record|data) +)*)({NAME})(?: \{{[^{{}}\n]*\}})* :(?= |$)", re.M)
+WORDS = r"(?:(?:pub|abbrev|unfoldable|record|data) +)*"
+DECLARED = re.compile(rf"^( *)({WORDS})({NAME})(?: \{{[^{{}}\n]*\}})* :(?= |$)", re.M)
 MADE = re.compile(r"returns(-\d+)?$|invariant-|decreases-|tie\b")
-# In a file of clauses the strings and the code stay; in a file of antt a string does.
+# A string keeps its words.
 STRING = re.compile(r'"(?:[^"\\\n]|\\.)*"')
-# What would fall together: a definition and a case or a fact of its name.
-BY_HAND = {"noRoom": "no_room_word", "everyByte": "each_byte", "is-forward": "is_forward_lem", "the-opt": "sole_opt", "isGood": "is_good", "refusedBy": "refused_by"}
+# What would fall together with another name in sight of it, or get an ending that it needs not.
+BY_HAND = {
+    "noRoom": "no_room_word",
+    "everyByte": "each_byte",
+    "is-forward": "is_forward_lem",
+    "the-opt": "sole_opt",
+    "isGood": "is_good",
+    "refusedBy": "refused_by",
+}
 # Words of the library that edits still spell as the older Rattle did.
 LIBRARY = {"bitXor": "bit_xor", "bitAnd": "bit_and", "bitOr": "bit_or", "getD": "get_or", "isTrue": "IsTrue"}
 
@@ -92,7 +103,7 @@ def table():
 
 
 def turn_words(text, new, walk=False):
-    """Each word of the table, but none in a string, and in a Proof.antt none with a dash that stands behind a dot: it is Rattle's."""
+    """Each word of the table, but none in a string, and in a Proof.antt none behind a dot: that is Rattle's."""
     strings = [m.span() for m in STRING.finditer(text)]
 
     def word(m):
@@ -112,7 +123,7 @@ def rt(text, new):
 
 
 def edit(text, new, words):
-    """A file of must-fail/: paths, projections and primes as they are written now, and each word that the crates no longer have."""
+    """A file of must-fail/: paths, projections and primes as they are written now, and words that are gone."""
 
     def word(m):
         w = LIBRARY.get(m[0], m[0])
@@ -149,7 +160,8 @@ def main():
     n = 0
     for path in files((".antt", ".rt")):
         old = read(path)
-        now = rt(old, new) if path.endswith(".rt") else turn_words(old, new, path.endswith("/Proof.antt"))
+        walk = path.endswith("/Proof.antt")
+        now = rt(old, new) if path.endswith(".rt") else turn_words(old, new, walk)
         n += write(path, old, now)
     words = words_of_crates()
     for path in files(".edit"):

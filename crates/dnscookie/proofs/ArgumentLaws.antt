@@ -25,9 +25,9 @@ module _ (s : List ℕ) where
   unfolding are_secrets
   two_secrets e = rw e refl
 
-  pub no_secrets_case : (length s ≡ 16 → ⊥) → (length s ≡ 32 → ⊥) → false ≡ are_secrets s
+  pub no_secrets_lem : (length s ≡ 16 → ⊥) → (length s ≡ 32 → ⊥) → false ≡ are_secrets s
   unfolding are_secrets
-  no_secrets_case not_16 not-32 = rw (ne_eqb (length s) 16 not_16, ne_eqb (length s) 32 not-32)
+  no_secrets_lem not_16 not_32 = rw (ne_eqb (length s) 16 not_16, ne_eqb (length s) 32 not_32)
 
   -- two where they are not one
   second : are_secrets s ≡ true → (length s ≡ 16 → ⊥) → length s ≡ 32
@@ -91,9 +91,9 @@ module _ (secrets client : List ℕ) where
   unfolding maker_refusal
   maker_passes b is no' long = rw (← is, not_false b no', eq-eqb (length client) 8 long)
 
-  made_with_case : maker_refusal secrets client ≡ 0 → (are_secrets secrets ≡ true) × (length client ≡ 8)
+  made_with_lem : maker_refusal secrets client ≡ 0 → (are_secrets secrets ≡ true) × (length client ≡ 8)
   unfolding maker_refusal
-  made_with_case e = go (are_secrets secrets) refl (eqb (length client) 8) refl e
+  made_with_lem e = go (are_secrets secrets) refl (eqb (length client) 8) refl e
     where
       go : (a : Bool) → are_secrets secrets ≡ a → (b : Bool) → eqb (length client) 8 ≡ b → maker_refusal secrets client ≡ 0 → (are_secrets secrets ≡ true) × (length client ≡ 8)
       go true p true q h = (p, eqb-true (length client) 8 q)
@@ -102,7 +102,7 @@ module _ (secrets client : List ℕ) where
 
   module _ (n : ℕ) (is : n ≡ maker_refusal secrets client) (none' : n ≡ 0) where
     pub maker_held : 16 ≤ length secrets
-    maker_held = first_there secrets (made_with_case (sym is ∙ none')).0
+    maker_held = first_there secrets (made_with_lem (sym is ∙ none')).0
 
     pub maker_eight : length client ≡ 8
-    maker_eight = (made_with_case (sym is ∙ none')).1
+    maker_eight = (made_with_lem (sym is ∙ none')).1

@@ -55,9 +55,9 @@ module _ (clock stamp d e : ℕ) (small : Fits w32 clock) (small' : Fits w32 sta
             rw (age_high clock stamp d is_difference (omega arith), lt-leb (2 ^ 32 - 1 - d) 299 (omega (arith, ok.fits))) refl
       ]
 
-  pub is_timely_case : (good : ℕ) → e ≤ 3900 → (w : Which) → good ≡ which_number w → good + d * 4294967296 ≡ finding_word (by_time (age clock stamp) w)
+  pub is_timely_lem : (good : ℕ) → e ≤ 3900 → (w : Which) → good ≡ which_number w → good + d * 4294967296 ≡ finding_word (by_time (age clock stamp) w)
   unfolding by_time is_timely
-  is_timely_case good near w is =
+  is_timely_lem good near w is =
       elim (dec_lt d (2 ^ 31)) [
         | yes low ↦ rw (age_low clock stamp d is_difference low, le-leb d 3600 (omega (arith, ok.fits))) (omega (arith, is))
         | no high ↦

@@ -1,5 +1,4 @@
-// The COOKIE option of a request found: a call of the library for C (crates/dnscookie) in a crate of its own, since LLVM lays the parser
-// into its caller where there is only one.
+// The COOKIE option of a request found: a call of the library for C. Its crate is its own, so that dnscookie_find_c exports it alone.
 #![tactic(auto)]
 
 ghost use Rattle.std.specs.Prelude.{◌≡◌, ◌≤◌};

@@ -31,9 +31,9 @@ module _ (d : List ℕ) (at : ℕ) where
 
   -- where the body ends, as the code works it out
   module _ (end : ℕ) (end_is : end ≡ at + 4 + be16_at d (at + 2)) where
-    pub option_past_case : length d < end → none ≡ option_at d at
+    pub option_past_lem : length d < end → none ≡ option_at d at
     unfolding option_at
-    option_past_case past = simp (lt-leb (at + 4 + be16_at d (at + 2)) (length d) (omega (arith, end_is)))
+    option_past_lem past = simp (lt-leb (at + 4 + be16_at d (at + 2)) (length d) (omega (arith, end_is)))
 
     pub option_whole : end ≤ length d → (code : ℕ) → code ≡ be_number (get_or d at 0 ∷ get_or d (at + 1) 0 ∷ [])
         → some (record { code = code; start = at + 4; end = end }) ≡ option_at d at

@@ -124,8 +124,9 @@ fn read_line(
     Ok(last_line(number, 0))
 }
 
-// One read, made again where a signal interrupted it, at most as often as a u64 counts.
-fn read_some(input: &mut impl Read, room: &mut [u8]) -> io::Result<usize>
+// One read, made again where a signal interrupted it, at most as often as a u64 counts. 0 bytes are the end of the
+// input, where there is room.
+pub fn read_some(input: &mut impl Read, room: &mut [u8]) -> io::Result<usize>
     ensures { IfOk result (λ n. n ≤ length room.new) }
 {
     for _ in 0..u64::MAX {

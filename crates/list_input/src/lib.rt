@@ -1,13 +1,14 @@
 // The journal lister: lists an input to an output, block by block.
 #![tactic(auto)]
 
-ghost use Rattle.std.specs.Prelude.{◌≡◌, cond, ◌≤◌, ◌<◌, ◌/◌, ◌%◌, ◌↔◌, IfOk, IsErr, length};
+ghost use Rattle.std.specs.Prelude.{◌≡◌, cond, ◌≤◌, ◌<◌, ◌/◌, ◌%◌, ◌↔◌, IsErr, length};
 ghost use Rattle.listing.specs.Listing.{size, lister_past};
 ghost use Rattle.list_input.specs.Text.{Whole, Roomy, is_end, FilledTo, PutOf};
 
+use lines::reader;
 use listing::Lister;
 use std::io;
-use std::io::{ErrorKind, Read, Write};
+use std::io::{Read, Write};
 
 // Bytes of a block: whole records, so that leftover bytes exist only at the end of the input.
 const BLOCK: usize = 65536;
@@ -31,19 +32,6 @@ struct Filled {
     read: io::Result<()>,
 }
 
-// One read, made again where a signal interrupted it, at most as often as a u64 counts.
-fn read_some(input: &mut impl Read, room: &mut [u8]) -> io::Result<usize>
-    ensures { IfOk result (λ n. n ≤ length room.new) }
-{
-    for _ in 0..u64::MAX {
-        match input.read(room) {
-            Err(error) if error.kind() == ErrorKind::Interrupted => {}
-            got => return got,
-        }
-    }
-    input.read(room)
-}
-
 // Reads until the block is full or there is no more, since a pipe hands over what it has.
 fn fill(input: &mut impl Read, block: &mut [u8]) -> Filled
     ensures filled { (result.count ≤ length block.new) × FilledTo result.rest result.count block.new }
@@ -51,7 +39,7 @@ fn fill(input: &mut impl Read, block: &mut [u8]) -> Filled
 {
     let mut have = 0;
     while have < block.len() {
-        match read_some(input, &mut block[have..]) {
+        match reader::read_some(input, &mut block[have..]) {
             Err(error) => {
                 return Filled {
                     count: have,

@@ -23,10 +23,10 @@ use Rattle.message.specs.declared.Record.{Record}
 -- ---- questions
 
 module _ (s : List ℕ) (at : ℕ) (all : Option ℕ) where
-  pub questions_end_case : (left : ℕ) → questions_end left s at ≡ all → left ≤ 0 → some at ≡ all
+  pub questions_end_lem : (left : ℕ) → questions_end left s at ≡ all → left ≤ 0 → some at ≡ all
   unfolding questions_end
-  questions_end_case zero so_far h = so_far
-  questions_end_case (suc n) so_far h = absurd (omega arith)
+  questions_end_lem zero so_far h = so_far
+  questions_end_lem (suc n) so_far h = absurd (omega arith)
 
   module _ (e : End) (ended : end_of e ≡ question_end s at) where
     pub questions_cut : (left : ℕ) → questions_end left s at ≡ all → 0 < left → e ≡ Malformed → none ≡ all

@@ -108,9 +108,9 @@ module _ {A : Type 0} (refused : ℕ → A) (found : A) where
   pub none_is : (rows : List Row) → NoneApplies rows → answered refused (first rows) found ≡ found
   none_is rows passes = ap (λ (n : ℕ). answered refused n found) (none_number passes)
 
-  pub is_none_case : (rows : List Row) → Numbered rows → ((n : ℕ) → answered refused (first rows) found ≡ refused n → ⊥) → NoneApplies rows
-  is_none_case [] ns never = no_row
-  is_none_case (r ∷ rows) ns never = pick (is_none_case rows ns.1) r.applies refl never
+  pub is_none_lem : (rows : List Row) → Numbered rows → ((n : ℕ) → answered refused (first rows) found ≡ refused n → ⊥) → NoneApplies rows
+  is_none_lem [] ns never = no_row
+  is_none_lem (r ∷ rows) ns never = pick (is_none_lem rows ns.1) r.applies refl never
     where
       pick : (((n : ℕ) → answered refused (first rows) found ≡ refused n → ⊥) → NoneApplies rows) → (b : Bool) → r.applies ≡ b
           → ((n : ℕ) → answered refused (cond b r.number (first rows)) found ≡ refused n → ⊥) → NoneApplies (r ∷ rows)

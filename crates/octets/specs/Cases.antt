@@ -15,10 +15,10 @@ pub record CasesHold : Type 0 where
   pub le_bytes_case : le_bytes 8 0x0706050403020100 ≡ 0x00 ∷ 0x01 ∷ 0x02 ∷ 0x03 ∷ 0x04 ∷ 0x05 ∷ 0x06 ∷ 0x07 ∷ []
   pub as_printed : printed 4 0x005cf79f ≡ 0x00 ∷ 0x5c ∷ 0xf7 ∷ 0x9f ∷ []
   pub misprinted : printed 3 0x5cf79f11 ≡ []
-  pub be16_at_lem : be16_at (1 ∷ 2 ∷ 3 ∷ []) 1 ≡ 0x0203
+  pub be16_at_case : be16_at (1 ∷ 2 ∷ 3 ∷ []) 1 ≡ 0x0203
   pub be16_past : be16_at (1 ∷ 2 ∷ 3 ∷ []) 2 ≡ 0x0300
-  pub be32_at_lem : be32_at (9 ∷ 1 ∷ 2 ∷ 3 ∷ 4 ∷ 9 ∷ []) 1 ≡ 0x01020304
-  pub be64_at_lem : be64_at (9 ∷ 1 ∷ 2 ∷ 3 ∷ 4 ∷ 5 ∷ 6 ∷ 7 ∷ 8 ∷ 9 ∷ []) 1 ≡ 0x0102030405060708
+  pub be32_at_case : be32_at (9 ∷ 1 ∷ 2 ∷ 3 ∷ 4 ∷ 9 ∷ []) 1 ≡ 0x01020304
+  pub be64_at_case : be64_at (9 ∷ 1 ∷ 2 ∷ 3 ∷ 4 ∷ 5 ∷ 6 ∷ 7 ∷ 8 ∷ 9 ∷ []) 1 ≡ 0x0102030405060708
   pub same_bytes : same_run (1 ∷ 2 ∷ []) (1 ∷ 2 ∷ []) ≡ true
   pub last_differs : same_run (1 ∷ 2 ∷ []) (1 ∷ 3 ∷ []) ≡ false
   pub shorter : same_run (1 ∷ []) (1 ∷ 2 ∷ []) ≡ false

@@ -130,8 +130,8 @@ module _ (s : List ℕ) (x : Reading) (read : answer_of x ≡ request s) where
   body_none q k = body_is (reading-as.NoCookie q) k
 
   module _ (q : ℕ) (c : Cookie) (k : x ≡ reading-as.CookieAt q c) where
-    pub body_at_case : take (c.end - c.start) (drop c.start s) ≡ cookie_body s
-    body_at_case = body_is (reading-as.CookieAt q c) k
+    pub body_at_lem : take (c.end - c.start) (drop c.start s) ≡ cookie_body s
+    body_at_lem = body_is (reading-as.CookieAt q c) k
 
     inside : (c.start ≤ c.end) × (c.end ≤ length s)
     inside = subst (AnswerInside (length s)) (sym read ∙ ap answer_of k) (request_inside s)

@@ -11,7 +11,7 @@ use lib.ListN.{length, take, drop, length-drop}
 use lib.Seq.{length-take-le}
 use Rattle.octets.specs.Refusals.{NoneApplies}
 use Rattle.octets.proofs.EachLaws.{Each, IfOne}
-use Rattle.octets.proofs.RefusalLaws.{is_first, none_is, is_none_case, first_is, this_not, none_behind, is_some}
+use Rattle.octets.proofs.RefusalLaws.{is_first, none_is, is_none_lem, first_is, this_not, none_behind, is_some}
 use Rattle.edns.proofs.Within.{BodyInside, cookie_within}
 use Rattle.edns.specs.Options.{options, options_from, options_in, options_of, option_past, is_cookie, first_cookie}
 use Rattle.edns.specs.declared.EdnsOption.{EdnsOption}
@@ -48,7 +48,7 @@ first_is_given s =
     record {
       refused_when = first_is refused (found_in s) refused_by (λ n. refl) passes (checks s) (numbered s);
       when_refused = is_first refused (found_in s) (checks s) (numbered s);
-      passed_when = is_none_case refused (found_in s) (checks s) (numbered s);
+      passed_when = is_none_lem refused (found_in s) (checks s) (numbered s);
       when_passed = λ nothing n e. passes n (sym (none_is refused (found_in s) (checks s) nothing) ∙ e);
     }
 

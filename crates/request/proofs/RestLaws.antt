@@ -104,8 +104,8 @@ module _ (s : List ℕ) (q : ℕ) (r : Record) where
     pub refuse_9 : l ≡ Past → refused 9 ≡ after_opt s q r
     refuse_9 k = opt_is Past k
 
-    pub no_cookie_case : l ≡ NoCookie → no_cookie q ≡ after_opt s q r
-    no_cookie_case k = opt_is NoCookie k
+    pub no_cookie_lem : l ≡ NoCookie → no_cookie q ≡ after_opt s q r
+    no_cookie_lem k = opt_is NoCookie k
 
     module _ (c : Cookie) (k : l ≡ First c) where
       pub with_cookie : (x : Answer) → x ≡ after_cookie q r.start c.start c.end → x ≡ after_opt s q r
@@ -138,11 +138,11 @@ module _ (s : List ℕ) (q : ℕ) (q-is : q ≡ qdcount s) where
     pub refuse_7 : o ≡ WrongOpt → refused 7 ≡ after_head s
     refuse_7 k = head_is WrongOpt k
 
-    pub no_opt_case : o ≡ NoOpt → no_cookie q ≡ after_head s
-    no_opt_case k = head_is NoOpt k
+    pub no_opt_lem : o ≡ NoOpt → no_cookie q ≡ after_head s
+    no_opt_lem k = head_is NoOpt k
 
-    pub with_opt_case : (r : Record) → o ≡ Opt r → (x : Answer) → x ≡ after_opt s q r → x ≡ after_head s
-    with_opt_case r k x e = e ∙ head_is (Opt r) k
+    pub with_opt_lem : (r : Record) → o ≡ Opt r → (x : Answer) → x ≡ after_opt s q r → x ≡ after_head s
+    with_opt_lem r k x e = e ∙ head_is (Opt r) k
 
 module _ (s : List ℕ) (o : Outline) (walked : outline_of o ≡ outline s) (r : Record) (k : o ≡ Opt r) where
   pub opt_ordered : r.start ≤ r.end

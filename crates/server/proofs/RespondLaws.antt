@@ -74,8 +74,8 @@ module _ (m : CookieMethod) (mode : Mode) (secrets : Secrets) (clock : ℕ) (add
   on_reading (request.cookie q start end) = on_cookie m mode secrets clock address q output (some (take (end - start) (drop start message)))
 
   module _ (on : is_disabled mode ≡ false) where
-    judged_in_case : (c : Option (List ℕ)) → verdict_on m mode secrets clock address c ≡ judged m secrets clock address c
-    judged_in_case c = when_on (λ (n : Mode). verdict_on m n secrets clock address c ≡ judged m secrets clock address c) refl refl mode on
+    judged_in_lem : (c : Option (List ℕ)) → verdict_on m mode secrets clock address c ≡ judged m secrets clock address c
+    judged_in_lem c = when_on (λ (n : Mode). verdict_on m n secrets clock address c ≡ judged m secrets clock address c) refl refl mode on
 
     all_checks : (rows : List Row) → unless_disabled mode rows ≡ rows
     all_checks rows = when_on (λ (n : Mode). unless_disabled n rows ≡ rows) refl refl mode on
@@ -93,7 +93,7 @@ module _ (m : CookieMethod) (mode : Mode) (secrets : Secrets) (clock : ℕ) (add
     unfolding respond request.request
     read_is room from =
         sym
-        (rw (le-ltb (length output) 28 room, from, all_checks, judged_in_case)
+        (rw (le-ltb (length output) 28 room, from, all_checks, judged_in_lem)
         (by_reading (first (request.checks message)) (qdcount message) (start_of (opts_in message)) (cookie_of message)))
 
 -- no option without a COOKIE option

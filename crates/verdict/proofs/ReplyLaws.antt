@@ -75,10 +75,10 @@ module _ (a : ℤ) (which : Which) (body : List ℕ) (is : which ≡ Generating)
     pub kept_is : lt_z (to_z w32 (of_z w32 a)) (pos 0) ≡ false → lt_z (pos 1800) (to_z w32 (of_z w32 a)) ≡ false → not t ≡ false
         → Kept ≡ kept_or_fresh a which body
     unfolding is_young reserved_zero
-    kept_is not_below not-above zero' = sym (whole ∙ rw (← told, not_false t zero', young))
+    kept_is not_below not_above zero' = sym (whole ∙ rw (← told, not_false t zero', young))
       where
         young : is_young a ≡ true
-        young = rw (le_not (pos 0) a, le_not a (pos 1800), (rw read at not_below), (rw read at not-above))
+        young = rw (le_not (pos 0) a, le_not a (pos 1800), (rw read at not_below), (rw read at not_above))
 
 -- ---- both columns of the table
 

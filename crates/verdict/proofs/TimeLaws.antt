@@ -39,7 +39,7 @@ module _ (a : ℤ) (w : Which) where
 
   timely : lt_z a (negsuc 299) ≡ false → lt_z (pos 3600) a ≡ false → good a w ≡ by_time a w
   unfolding by_time is_timely
-  timely not_below not-above = rw (le_not (negsuc 299) a, le_not a (pos 3600), not_below, not-above)
+  timely not_below not_above = rw (le_not (negsuc 299) a, le_not a (pos 3600), not_below, not_above)
 
 -- the same, where the age is read from a local's bits
 module _ (a : ℤ) (w : Which) (ok : SFits w32 a) where
@@ -54,4 +54,4 @@ module _ (a : ℤ) (w : Which) (ok : SFits w32 a) where
 
   pub in_time : lt_z (to_z w32 (of_z w32 a)) (negsuc 299) ≡ false → lt_z (pos 3600) (to_z w32 (of_z w32 a)) ≡ false
       → good (to_z w32 (of_z w32 a)) w ≡ by_time a w
-  in_time not_below not-above = ap (λ (z : ℤ). good z w) read ∙ timely a w (rw read at not_below) (rw read at not-above)
+  in_time not_below not_above = ap (λ (z : ℤ). good z w) read ∙ timely a w (rw read at not_below) (rw read at not_above)

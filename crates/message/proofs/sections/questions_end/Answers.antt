@@ -1,7 +1,7 @@
 -- `message::sections::questions_end` meets its contract. The questions that are left end where all do. Assumes nothing.
 use borrow.Author.Rules.{rules}
 use mathlib.Core.Path.{refl}
-use Rattle.message.proofs.MessageLaws.{questions_end_case, questions_cut, questions_next}
+use Rattle.message.proofs.MessageLaws.{questions_end_lem, questions_cut, questions_next}
 use Rattle.message.proofs.sections.questions_end.Goals as goal
 
 pub loop-left-init : goal.loop-left-init
@@ -14,4 +14,4 @@ pub returns-in-Malformed : goal.returns-in-Malformed
 returns-in-Malformed c = search (rules, questions_cut)
 
 pub returns : goal.returns
-returns c = search (rules, questions_end_case)
+returns c = search (rules, questions_end_lem)

@@ -1,6 +1,6 @@
 -- `request::checks::cookie_body` meets its contract. What is found lies within the message. Assumes nothing.
 use borrow.Author.Rules.{rules}
-use Rattle.request.proofs.BodyLaws.{body_ordered, body_within, body_refused, body_none, body_at_case}
+use Rattle.request.proofs.BodyLaws.{body_ordered, body_within, body_refused, body_none, body_at_lem}
 use Rattle.request.proofs.checks.cookie_body.Goals as goal
 
 pub slice_bounds-result-count-in-CookieAt : goal.slice_bounds-result-count-in-CookieAt
@@ -19,4 +19,4 @@ pub returns-in-NoCookie : goal.returns-in-NoCookie
 returns-in-NoCookie c = search (rules, body_none)
 
 pub returns-in-CookieAt : goal.returns-in-CookieAt
-returns-in-CookieAt c = search (rules, body_at_case)
+returns-in-CookieAt c = search (rules, body_at_lem)

@@ -1,6 +1,6 @@
 -- `request::checks::read_opt` meets its contract. Checks 8 and 9, then the first COOKIE. Assumes nothing.
 use borrow.Author.Rules.{rules}
-use Rattle.request.proofs.RestLaws.{refuse_8, cookie_ordered, cookie_fits, refuse_9, no_cookie_case, with_cookie}
+use Rattle.request.proofs.RestLaws.{refuse_8, cookie_ordered, cookie_fits, refuse_9, no_cookie_lem, with_cookie}
 use Rattle.request.proofs.checks.read_opt.Goals as goal
 
 pub returns-then-opt-ne0 : goal.returns-then-opt-ne0
@@ -13,7 +13,7 @@ pub returns-in-Past : goal.returns-in-Past
 returns-in-Past c = search (rules, refuse_9)
 
 pub returns-in-NoCookie : goal.returns-in-NoCookie
-returns-in-NoCookie c = search (rules, no_cookie_case)
+returns-in-NoCookie c = search (rules, no_cookie_lem)
 
 pub returns-in-First : goal.returns-in-First
 returns-in-First c = search (rules, with_cookie)
