@@ -28,60 +28,28 @@ mod cookies;
 mod steps;
 
 use ledger::Ledger;
-use lines::{output, reader, text};
+use lines::{reader, text};
 use std::io;
-use std::io::{Read, Write};
+use std::io::Write;
 
-fn bad_line(out: &mut impl Write, number: u64, ledger: Ledger) -> io::Result<Ledger> {
-    output::bad_line(out, number)?;
-    Ok(ledger)
-}
-
-// Answers one line, and tells the ledger that it leaves.
-fn run_line(out: &mut impl Write, line: &[u8], number: u64, ledger: Ledger) -> io::Result<Ledger> {
-    if text::has_shape(line, b"step", 5) {
-        return steps::step_line(out, line, number, ledger);
+// Answers one line, if it is well written.
+fn run_line(out: &mut impl Write, line: &[u8], ledger: &mut Ledger) -> Option<io::Result<()>> {
+    match (text::field(line, 0), text::fields(line)) {
+        (b"step", 5) => steps::step_line(out, line, ledger),
+        (b"record", 2) => steps::record_line(out, line, ledger),
+        (b"making", 6) => cookies::making_line(out, line, *ledger),
+        (b"checking", 6) => cookies::checking_line(out, line, *ledger),
+        _ => None,
     }
-    if text::has_shape(line, b"record", 2) {
-        return steps::record_line(out, line, number, ledger);
-    }
-    run_other(out, line, number, ledger)?;
-    Ok(ledger)
-}
-
-// The lines that leave the ledger as it is.
-fn run_other(out: &mut impl Write, line: &[u8], number: u64, ledger: Ledger) -> io::Result<()> {
-    if text::has_shape(line, b"making", 6) {
-        return cookies::making_line(out, line, number, ledger);
-    }
-    if text::has_shape(line, b"checking", 6) {
-        return cookies::checking_line(out, line, number, ledger);
-    }
-    if text::is_comment(line) {
-        return output::say_line(out, line);
-    }
-    output::bad_line(out, number)
-}
-
-// A proved loop has to end, and nothing says that the input does: it counts down from a number that no run uses up.
-fn run(input: &mut impl Read, out: &mut impl Write, buffer: &mut [u8]) -> io::Result<()> {
-    let mut cursor = reader::start();
-    let mut ledger = fleet::fresh();
-    let mut turns = u64::MAX;
-    while 0 < turns {
-        cursor = reader::next(input, out, buffer, cursor)?;
-        if !cursor.is_line {
-            return Ok(());
-        }
-        let start = cursor.start;
-        let end = cursor.end;
-        ledger = run_line(out, &buffer[start..end], cursor.number, ledger)?;
-        turns -= 1;
-    }
-    Ok(())
 }
 
 fn main(rt: HostRuntime) -> io::Result<()> {
-    let mut buffer = [0u8; 262144];
-    run(&mut rt.stdin(), &mut rt.stdout(), &mut buffer)
+    let mut buffer = [0; 262144];
+    let mut ledger = fleet::fresh();
+    reader::each(
+        &mut rt.stdin(),
+        &mut rt.stdout(),
+        &mut buffer,
+        |out, line| run_line(out, line, &mut ledger),
+    )
 }

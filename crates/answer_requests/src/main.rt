@@ -20,41 +20,38 @@
 // number, and nothing after it is read.
 #![tactic(auto)]
 
-use lines::fields::SettingField;
-use lines::{answers, fields, hex, output, reader, text};
-use server::{ErrorReply, Refusal, Response};
+use lines::fields::ServerSetting;
+use lines::{fields, hex, output, reader, text};
+use server::{Answered, ErrorReply, Refusal};
 use std::io;
-use std::io::{Read, Write};
+use std::io::Write;
 
 // The number of the message's field, which is the last.
 const MESSAGE: usize = 6;
 
-fn say_owed(out: &mut impl Write, reply: ErrorReply) -> io::Result<()> {
-    match reply {
-        ErrorReply::CallersFault => output::say(out, b" caller"),
-        ErrorReply::Nothing => output::say(out, b" nothing"),
-        ErrorReply::FormErr => output::say(out, b" formerr"),
-        ErrorReply::BadVers => output::say(out, b" badvers"),
-    }
-}
-
+// The words for what is owed are this program's alone.
 fn say_refusal(out: &mut impl Write, refusal: Refusal) -> io::Result<()> {
-    output::say_refused(out, server::refusal_number(refusal))?;
-    say_owed(out, server::error_reply(refusal))
+    let owed = match server::error_reply(refusal) {
+        ErrorReply::CallersFault => "caller",
+        ErrorReply::Nothing => "nothing",
+        ErrorReply::FormErr => "formerr",
+        ErrorReply::BadVers => "badvers",
+    };
+    write!(out, " refused {} {owed}", u8::from(refusal))
 }
 
-fn say_response(out: &mut impl Write, response: Response) -> io::Result<()> {
+fn say_response(out: &mut impl Write, response: Result<Answered, Refusal>) -> io::Result<()> {
     match response {
-        Response::Refused(refusal) => say_refusal(out, refusal),
-        Response::Reply { verdict, reply } => answers::say_answer(out, verdict, reply),
+        Ok(Answered { verdict, reply }) => write!(out, " {verdict} {reply}"),
+        Err(refusal) => say_refusal(out, refusal),
     }
 }
 
 // The line again, with the size of a long message in its place.
 fn say_request(out: &mut impl Write, line: &[u8], count: usize) -> io::Result<()> {
-    let at = text::field_start(line, MESSAGE);
-    output::say(out, &line[0..at])?;
-    output::say_message(out, &line[at..], count)
+    let (head, message) = line.split_at(text::field_start(line, MESSAGE));
+    out.write_all(head)?;
+    output::say_message(out, message, count)
 }
 
 // The line, what came of it, and the lent buffer afterwards.
@@ -62,7 +59,7 @@ fn answer(
     out: &mut impl Write,
     line: &[u8],
     count: usize,
-    response: Response,
+    response: Result<Answered, Refusal>,
     lent: &[u8],
 ) -> io::Result<()> {
     say_request(out, line, count)?;
@@ -70,102 +67,42 @@ fn answer(
     output::say_last(out, lent)
 }
 
-// Answers a request, once each of its parts is one part of a buffer.
-fn respond(
+// Answers one line, if it is well written.
+fn run_line(
     out: &mut impl Write,
     line: &[u8],
-    setting: SettingField,
-    address: &[u8],
-    message: &[u8],
+    bytes: &mut [u8],
     lent: &mut [u8],
-) -> io::Result<()> {
-    let mode = setting.mode;
-    let secrets = setting.secrets;
-    let response = server::respond(mode, secrets, setting.clock, address, message, lent);
-    answer(out, line, message.len(), response, lent)
-}
-
-fn setting_of(line: &[u8]) -> SettingField {
-    fields::setting(
+) -> Option<io::Result<()>> {
+    if text::fields(line) != MESSAGE + 1 {
+        return None;
+    }
+    let ServerSetting {
+        mode,
+        secrets,
+        clock,
+    } = fields::setting(
         text::field(line, 0),
         text::field(line, 1),
         text::field(line, 2),
         text::field(line, 3),
-    )
-}
-
-// `MODE GENERATING OTHER CLOCK ADDRESS OUTPUT MESSAGE`
-fn request_line(
-    out: &mut impl Write,
-    line: &[u8],
-    number: u64,
-    bytes: &mut [u8],
-    lent: &mut [u8],
-) -> io::Result<()> {
-    let setting = setting_of(line);
-    let mut address = [0u8; 64];
-    let address_read = hex::decode(text::field(line, 4), &mut address);
-    let lent_read = hex::decode_part(text::field(line, 5), lent);
-    let message_read = hex::decode(text::field(line, MESSAGE), bytes);
-    let is_whole = text::fields(line) == MESSAGE + 1;
-    if !(is_whole & setting.ok & address_read.ok & lent_read.ok & message_read.ok) {
-        return output::bad_line(out, number);
-    }
-    let n = address_read.count;
-    let m = lent_read.count;
-    let k = message_read.count;
-    respond(
-        out,
-        line,
-        setting,
-        &address[0..n],
-        &bytes[0..k],
-        &mut lent[0..m],
-    )
-}
-
-// Answers one line.
-fn run_line(
-    out: &mut impl Write,
-    line: &[u8],
-    number: u64,
-    bytes: &mut [u8],
-    lent: &mut [u8],
-) -> io::Result<()> {
-    if text::is_comment(line) {
-        return output::say_line(out, line);
-    }
-    request_line(out, line, number, bytes, lent)
-}
-
-// A proved loop has to end, and nothing says that the input does: it counts down from a number that no run uses up.
-fn run(
-    input: &mut impl Read,
-    out: &mut impl Write,
-    buffer: &mut [u8],
-    bytes: &mut [u8],
-    lent: &mut [u8],
-) -> io::Result<()> {
-    let mut cursor = reader::start();
-    let mut turns = u64::MAX;
-    while 0 < turns {
-        cursor = reader::next(input, out, buffer, cursor)?;
-        if !cursor.is_line {
-            return Ok(());
-        }
-        let start = cursor.start;
-        let end = cursor.end;
-        run_line(out, &buffer[start..end], cursor.number, bytes, lent)?;
-        turns -= 1;
-    }
-    Ok(())
+    )?;
+    let mut room = [0; 64];
+    let address = hex::decode(text::field(line, 4), &mut room)?;
+    let lent = hex::decode_part(text::field(line, 5), lent)?;
+    let message = hex::decode(text::field(line, MESSAGE), bytes)?;
+    let response = server::respond(mode, secrets, clock, address, message, lent);
+    Some(answer(out, line, message.len(), response, lent))
 }
 
 fn main(rt: HostRuntime) -> io::Result<()> {
-    let mut buffer = [0u8; 262144];
-    let mut bytes = [0u8; 131072];
-    let mut lent = [0u8; 65535];
-    let mut input = rt.stdin();
-    let mut out = rt.stdout();
-    run(&mut input, &mut out, &mut buffer, &mut bytes, &mut lent)
+    let mut buffer = [0; 262144];
+    let mut bytes = [0; 131072];
+    let mut lent = [0; 65535];
+    reader::each(
+        &mut rt.stdin(),
+        &mut rt.stdout(),
+        &mut buffer,
+        |out, line| run_line(out, line, &mut bytes, &mut lent),
+    )
 }

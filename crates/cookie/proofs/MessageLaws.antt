@@ -1,18 +1,15 @@
--- What the proofs of `is_address_lem`, `first_word`, `word` and `hash` cite: lengths, words of bytes, and the hash of words. Assumes nothing.
-use mathlib.Core.Path.{◌≡◌, sym, ap, ap₂, ◌∙◌}
-use mathlib.Core.Bool.{true, false}
-use mathlib.Core.List.{List, [], ◌∷◌, ◌++◌, append_assoc}
-use Prim.Native.Nat.{ℕ, ◌+◌, ◌-◌, ◌≤◌}
-use native.Mathlib.Omega.{arith}
-use borrow.Author.Tests.{eqb-true, eq-eqb, ne_eqb}
-use lib.ListN.{length, take, drop, get_or, length-drop}
+-- What the proofs of `is_address`, `word` and `Address::read` cite: lengths, and words of bytes. Assumes nothing.
+use Rattle.std.proofs.Common.{◌≡◌, ℕ, ◌+◌, ◌-◌, ◌≤◌, ◌<◌, Bool, true, false, leb, cond, List, [], ◌∷◌, ◌++◌, length, take, drop, get_or, Option, Some, None, IsSome, option_map, sym, refl, ap, ap₂, ◌∙◌, arith, length-drop, eq-eqb, ne_eqb, le-leb, length-take-le, take-append-drop, w8, Fits}
+use borrow.Author.Tests.{lt-leb}
 use lib.Seq.{take-add, take_all}
-use mir.Syntax.{w8}
-use mir.Val.{Fits}
 use Rattle.octets.specs.Numbers.{le_number, le_bytes}
-use Rattle.octets.proofs.ReadLaws.{part_from, part_again, le64_at}
-use Rattle.secret.specs.declared.Secret.{Secret}
-use Rattle.siphash.specs.SipHash.{sip_hash24}
+use Rattle.octets.specs.Runs.{bytes_at}
+use Rattle.octets.proofs.ReadLaws.{part_again}
+use Rattle.octets.proofs.ReadLaws as read
+use Rattle.verdict.proofs.ReplyLaws.{and_false}
+use Rattle.cookie.specs.Hashed.{address_bytes, address_in, hashed_in}
+use Rattle.cookie.specs.declared.hashed.Address.{Address}
+use Rattle.cookie.specs.declared.hashed.Address.TheVariants.{V4, V6}
 use Rattle.cookie.specs.ServerCookie.{is_address}
 
 -- ---- lengths
@@ -30,37 +27,73 @@ module _ (s : List ℕ) where
   unfolding is_address
   is_neither n4 n16 = rw (ne_eqb (length s) 4 n4, ne_eqb (length s) 16 n16)
 
--- an address that is not 4 bytes is 16
-pub address_16 : (s : List ℕ) → is_address s ≡ true → (length s ≡ 4 → ⊥) → length s ≡ 16
-unfolding is_address
-address_16 s is n4 = eqb-true (length s) 16 ((rw (ne_eqb (length s) 4 n4) at is))
-
 -- ---- words
 
--- eight bytes read as a word are the bytes of that word
-pub first_word_is : (s : List ℕ) (w : ℕ) → 8 ≤ length s → ((i : ℕ) → Fits w8 (get_or s i 0))
-    → w ≡ le_number (get_or s 0 0 ∷ get_or s 1 0 ∷ get_or s 2 0 ∷ get_or s 3 0 ∷ get_or s 4 0 ∷ get_or s 5 0 ∷ get_or s 6 0 ∷ get_or s 7 0 ∷ [])
-    → le_bytes 8 w ≡ take 8 s
-first_word_is s w within bytes e = ap (le_bytes 8) (le64_at 0 s w e) ∙ part_again 8 0 s (omega arith) (λ i. (bytes i).fits)
+-- eight bytes from a place on, read as a word, are the bytes of that word
+pub word_is : (s : List ℕ) (at w : ℕ) → at + 8 ≤ length s → ((i : ℕ) → Fits w8 (get_or s i 0)) → w ≡ le_number (take 8 (drop at s)) → le_bytes 8 w ≡ take 8 (drop at s)
+word_is s at w within bytes e = ap (le_bytes 8) e ∙ part_again 8 at s within (λ i. (bytes i).fits)
 
--- also of the rest from a place on, which is a part up to the end
-pub word_is : (s : List ℕ) (at w : ℕ) → at + 8 ≤ length s → le_bytes 8 w ≡ take 8 (take (length s - at) (drop at s)) → le_bytes 8 w ≡ take 8 (drop at s)
-word_is s at w within e = e ∙ ap (take 8) (take_all (length s - at) (drop at s) (omega (arith, length-drop at s)))
+-- ---- an address read
 
-module _ (secret : Secret) (w0 w1 : ℕ) (address : List ℕ) where
-  pub hash_4 : length address ≡ 4 → ((i : ℕ) → Fits w8 (get_or address i 0)) → (last r : ℕ)
-      → last ≡ le_number (get_or address 0 0 ∷ get_or address 1 0 ∷ get_or address 2 0 ∷ get_or address 3 0 ∷ [])
-      → r ≡ sip_hash24 secret (le_bytes 8 w0 ++ (le_bytes 8 w1 ++ le_bytes 4 last))
-      → r ≡ sip_hash24 secret (le_bytes 8 w0 ++ le_bytes 8 w1 ++ address)
-  hash_4 long bytes last r e told =
-      let whole : le_bytes 4 last ≡ address =
-      ap (le_bytes 4) (e ∙ ap le_number (part_from 4 0 0 address (omega arith))) ∙ part_again 4 0 address (omega arith) (λ i. (bytes i).fits) ∙ take_all 4 address (omega arith) in
-      told ∙ ap (sip_hash24 secret) (ap (λ (l : List ℕ). le_bytes 8 w0 ++ (le_bytes 8 w1 ++ l)) whole ∙ sym (append_assoc (le_bytes 8 w0) (le_bytes 8 w1) address))
+-- the words of 4 or 16 bytes are those bytes
+pub read_4 : (s : List ℕ) → length s ≡ 4 → ((i : ℕ) → Fits w8 (get_or s i 0)) → (four : List ℕ) (word : ℕ)
+    → four ≡ bytes_at 4 s 0 → word ≡ le_number four → Some (le_bytes 4 word) ≡ address_in s
+read_4 s long bytes four word are e =
+    let whole : le_bytes 4 word ≡ s =
+    ap (le_bytes 4) (read.word_is 4 s 0 four word are e) ∙ part_again 4 0 s (omega arith) (λ i. (bytes i).fits) ∙ take_all 4 s (omega arith) in
+    rw (whole, ← is_4 s long) refl
 
-  pub hash_16 : is_address address ≡ true → (length address ≡ 4 → ⊥) → (w2 w3 r : ℕ) → le_bytes 8 w2 ≡ take 8 address → le_bytes 8 w3 ≡ take 8 (drop 8 address)
-      → r ≡ sip_hash24 secret (le_bytes 8 w0 ++ (le_bytes 8 w1 ++ (le_bytes 8 w2 ++ le_bytes 8 w3)))
-      → r ≡ sip_hash24 secret (le_bytes 8 w0 ++ le_bytes 8 w1 ++ address)
-  hash_16 is n4 w2 w3 r low high told =
-      let long : length address ≡ 16 = address_16 address is n4 in
-      let whole : le_bytes 8 w2 ++ le_bytes 8 w3 ≡ address = ap₂ (λ (x y : List ℕ). x ++ y) low high ∙ sym (take-add 8 8 address) ∙ take_all 16 address (omega arith) in
-      told ∙ ap (sip_hash24 secret) (ap (λ (l : List ℕ). le_bytes 8 w0 ++ (le_bytes 8 w1 ++ l)) whole ∙ sym (append_assoc (le_bytes 8 w0) (le_bytes 8 w1) address))
+pub read_16 : (s : List ℕ) → length s ≡ 16 → (w2 w3 : ℕ) → le_bytes 8 w2 ≡ take 8 s → le_bytes 8 w3 ≡ take 8 (drop 8 s)
+    → Some (le_bytes 8 w2 ++ le_bytes 8 w3) ≡ address_in s
+read_16 s long w2 w3 low high =
+    let whole : le_bytes 8 w2 ++ le_bytes 8 w3 ≡ s = ap₂ (λ (x y : List ℕ). x ++ y) low high ∙ sym (take-add 8 8 s) ∙ take_all 16 s (omega arith) in
+    rw (whole, ← is_16 s long) refl
+
+pub read_neither : (s : List ℕ) → (length s ≡ 4 → ⊥) → (length s ≡ 16 → ⊥) → None ≡ address_in s
+read_neither s n4 n16 = rw (← is_neither s n4 n16) refl
+
+-- what is read is an address, and what isn't is none
+pub not_read : (s : List ℕ) → None ≡ address_in s → is_address s ≡ false
+not_read s e = by (is_address s) e
+  where
+    by : (b : Bool) → None ≡ cond b (Some s) None → b ≡ false
+    by true e = cc
+    by false e = refl
+
+pub is_read : (s x : List ℕ) → Some x ≡ address_in s → (is_address s ≡ true) × (x ≡ s)
+is_read s x e = by (is_address s) e
+  where
+    by : (b : Bool) → Some x ≡ cond b (Some s) None → (b ≡ true) × (x ≡ s)
+    by true e = (refl, cc)
+    by false e = cc
+
+pub read_some : (s : List ℕ) → is_address s ≡ true → (r : Option Address) → option_map address_bytes r ≡ address_in s → IsSome r
+read_some s is (Some a) e = refl
+read_some s is None e = by (is_address s) is e
+  where
+    by : (b : Bool) → b ≡ true → None ≡ cond b (Some s) None → IsSome {T = Address} None
+    by true q e = cc
+    by false q e = cc
+
+-- the bytes of an address are one
+pub address_true : (a : Address) → is_address (address_bytes a) ≡ true
+unfolding is_address le_bytes
+address_true (V4 word) = refl
+address_true (V6 low high) = refl
+
+-- what is hashed, read of its bytes: too few, no address behind the first 16, and both there
+pub hashed_short : (s : List ℕ) → length s < 16 → None ≡ hashed_in s
+hashed_short s short = rw (lt-leb 16 (length s) short) refl
+
+pub hashed_other : (s : List ℕ) → None ≡ address_in (drop 16 s) → None ≡ hashed_in s
+hashed_other s none = rw (not_read (drop 16 s) none, and_false (leb 16 (length s))) refl
+
+pub hashed_read : (s : List ℕ) → 16 ≤ length s → (w0 w1 : ℕ) → le_bytes 8 w0 ≡ take 8 (take 16 s) → le_bytes 8 w1 ≡ take 8 (drop 8 (take 16 s))
+    → (address : List ℕ) → Some address ≡ address_in (drop 16 s) → Some (le_bytes 8 w0 ++ le_bytes 8 w1 ++ address) ≡ hashed_in s
+hashed_read s long w0 w1 low high address from =
+    let read = is_read (drop 16 s) address from in
+    let front : length (take 16 s) ≡ 16 = length-take-le 16 s long in
+    let words : le_bytes 8 w0 ++ le_bytes 8 w1 ≡ take 16 s =
+    ap₂ (λ (x y : List ℕ). x ++ y) low high ∙ sym (take-add 8 8 (take 16 s)) ∙ take_all 16 (take 16 s) (omega arith) in
+    let whole : le_bytes 8 w0 ++ le_bytes 8 w1 ++ address ≡ s = ap₂ (λ (x y : List ℕ). x ++ y) words read.1 ∙ take-append-drop 16 s in
+    rw (whole, le-leb 16 (length s) long, read.0) refl

@@ -1,6 +1,6 @@
 -- What the proofs of cookie_option cite, one law for each answer. Assumes nothing.
 use mathlib.Core.Path.{◌≡◌, refl, sym, ap, ap₂, ◌∙◌}
-use mathlib.Core.Bool.{Bool, true, false, not}
+use mathlib.Core.Bool.{Bool, true, false}
 use mathlib.Core.List.{List, [], ◌∷◌, ◌++◌, append_assoc}
 use Prim.Native.Nat.{ℕ, zero, suc, ◌≤◌, ◌<◌}
 use native.Mathlib.Nat.{zero-add}
@@ -11,10 +11,10 @@ use lib.Seq.{drop-drop, take-add, take_all}
 use Rattle.octets.specs.Numbers.{le_number, le_bytes, be_bytes}
 use Rattle.octets.specs.Runs.{same_run, fits, written}
 use Rattle.octets.proofs.NumberLaws.{length_le_bytes, le_again}
-use Rattle.octets.proofs.RunLaws.{written_behind}
+use Rattle.octets.proofs.RunLaws.{written_behind, equal_is}
 use Rattle.secret.specs.declared.Secret.{Secret}
 use Rattle.siphash.specs.SipHash.{sip_hash24, sip_hash24_bytes}
-use Rattle.verdict.proofs.TimeLaws.{not_true, not_false}
+use Rattle.std.specs.Str.{bytes_eq}
 use Rattle.cookie.specs.CookieOption.{option_head, fresh_front, fresh_server, fresh_option, fresh_refusal, kept_option, kept_refusal, output_after, written_body}
 use Rattle.cookie.specs.ServerCookie.{sip_hash_method, is_address}
 
@@ -30,11 +30,11 @@ module _ (output address option : List ℕ) where
   unfolding fresh_refusal
   fresh_no_room short = let e : 1 ≡ fresh_refusal output address = rw (lt-ltb (length output) 28 short) in (e, stays output option 0 (fresh_refusal output address) e)
 
-  pub fresh_no_address : 28 ≤ length output → (a : Bool) → a ≡ is_address address → not a ≡ true
+  pub fresh_no_address : 28 ≤ length output → is_address address ≡ false
       → (2 ≡ fresh_refusal output address) × (output ≡ output_after (fresh_refusal output address) option output)
   unfolding fresh_refusal
-  fresh_no_address room a is-a no' =
-      let e : 2 ≡ fresh_refusal output address = rw (le-ltb (length output) 28 room, ← is-a, not_true a no') in
+  fresh_no_address room no' =
+      let e : 2 ≡ fresh_refusal output address = rw (le-ltb (length output) 28 room, no') in
       (e, stays output option 1 (fresh_refusal output address) e)
 
 module _ (output body : List ℕ) where
@@ -119,7 +119,7 @@ front_is clock w b is e = ap (le_bytes 8) e ∙ rw is (le_again (1 ∷ 0 ∷ 0 �
 
 -- a fresh option
 module _ (output address client two : List ℕ) (secret : Secret) (clock : ℕ) (room : 28 ≤ length output) (long : length client ≡ 8)
-    (t : Bool) (is-a : t ≡ is_address address) (yes' : not t ≡ false) (w0 w1 hash : ℕ)
+    (is : is_address address ≡ true) (w0 w1 hash : ℕ)
     (first_is : le_bytes 8 w0 ≡ take 8 client) (second_is : le_bytes 8 w1 ≡ fresh_front sip_hash_method clock)
     (hashes : hash ≡ sip_hash24 secret (le_bytes 8 w0 ++ le_bytes 8 w1 ++ address))
     (done : two ≡ option_head ++ (le_bytes 8 w0 ++ (le_bytes 8 w1 ++ le_bytes 8 hash)) ++ drop 28 output) where
@@ -141,7 +141,7 @@ module _ (output address client two : List ℕ) (secret : Secret) (clock : ℕ) 
       × (two ≡ output_after (fresh_refusal output address) (fresh_option sip_hash_method secret clock address client) output)
   unfolding fresh_refusal
   fresh_done =
-      let none : fresh_refusal output address ≡ 0 = rw (le-ltb (length output) 28 room, ← is-a, not_false t yes') in (
+      let none : fresh_refusal output address ≡ 0 = rw (le-ltb (length output) 28 room, is) in (
         sym none,
         done ∙ ap (λ (k : ℕ). words ++ drop k output) (sym length_words) ∙ ap (λ (l : List ℕ). l ++ drop (length l) output) option_is
             ∙ sym (ap (λ (k : ℕ). output_after k (fresh_option sip_hash_method secret clock address client) output) none),
@@ -154,11 +154,14 @@ module _ (s : List ℕ) where
   unfolding written_body
   body_short short = rw (lt-leb 28 (length s) short)
 
-  module _ (long : 28 ≤ length s) (t : Bool) (told : t ≡ same_run (take 4 s) option_head) where
-    pub body_other : not t ≡ true → [] ≡ written_body s
-    unfolding written_body
-    body_other no' = rw (le-leb 28 (length s) long, ← told, not_true t no')
+  module _ (long : 28 ≤ length s) (t : Bool) (told : t ≡ bytes_eq (take 4 s) option_head) where
+    same : same_run (take 4 s) option_head ≡ t
+    same = sym (equal_is (take 4 s) option_head t told)
 
-    pub body_is : not t ≡ false → take 24 (drop 4 s) ≡ written_body s
+    pub body_other : t ≡ false → [] ≡ written_body s
     unfolding written_body
-    body_is yes' = rw (le-leb 28 (length s) long, ← told, not_false t yes')
+    body_other no' = rw (le-leb 28 (length s) long, same, no') refl
+
+    pub body_is : t ≡ true → take 24 (drop 4 s) ≡ written_body s
+    unfolding written_body
+    body_is yes' = rw (le-leb 28 (length s) long, same, yes') refl

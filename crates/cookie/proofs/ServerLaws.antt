@@ -1,12 +1,13 @@
 -- What the proofs of server_cookie cite, one law for each answer. Assumes nothing.
 use mathlib.Core.Path.{◌≡◌, refl, sym, ap, ap₂, ◌∙◌}
-use mathlib.Core.Bool.{Bool, true, false, not, false≢true}
+use mathlib.Core.Bool.{Bool, true, false, false≢true}
 use mathlib.Core.List.{List, ◌++◌}
 use Prim.Native.Nat.{ℕ, ◌<◌}
 use borrow.Author.Tests.{eq-eqb, eqb-true}
 use lib.Dec.{eqb}
 use lib.ListN.{length, take, drop, get_or}
 use mathlib.Core.Option.{none, some}
+use Rattle.std.specs.Prelude as code
 use lib.IntN.{ℤ}
 use lib.Seq.{take-add}
 use lib.Signed.{mag}
@@ -25,15 +26,12 @@ use Rattle.siphash.specs.SipHash.{sip_hash24, sip_hash24_bytes}
 use Rattle.cookie.proofs.BodyLaws.{judge_matching}
 use Rattle.cookie.specs.Match.{match_of}
 use Rattle.verdict.proofs.ReplyLaws.{when_on}
-use Rattle.verdict.proofs.TimeLaws.{not_true, not_false}
 use Rattle.verdict.specs.Findings.{finding, by_time}
 use Rattle.verdict.specs.ReplyTable.{is_disabled}
 use Rattle.verdict.specs.Serial.{age}
 use Rattle.cookie.specs.ServerCookie.{CookieMethod, sip_hash_method, matches, matching, by_hash, judge_body, verdict, judgement, checking_refusal, is_address, is_body}
 use Rattle.cookie.specs.ServerCookie.Answer.{refused, found}
 use Rattle.verdict.specs.Findings.Finding.{ignored, bad}
-use Rattle.cookie.specs.declared.server_cookie.Match.{Match}
-use Rattle.cookie.specs.declared.server_cookie.Match.TheVariants.{By, Nothing}
 use Rattle.verdict.specs.declared.Mode.{Mode}
 use Rattle.verdict.specs.declared.Mode.TheVariants.{Disabled, Enabled, Enforced}
 use Rattle.verdict.specs.declared.Verdict.{Verdict}
@@ -85,54 +83,46 @@ module _ (m : CookieMethod) (message hash : List ℕ) (secrets : Secrets) (g : S
 
 module _ (secrets : Secrets) (clock : ℕ) (address body : List ℕ) (long : length body ≡ 24) (version : get_or body 8 0 ≡ 1)
     (w0 w1 hash : ℕ) (first_is : le_bytes 8 w0 ≡ take 8 body) (second_is : le_bytes 8 w1 ≡ take 8 (drop 8 body)) (third-is : le_bytes 8 hash ≡ take 8 (drop 16 body))
-    (v : Match) (told : match_of v ≡ matching sip_hash_method (le_bytes 8 w0 ++ le_bytes 8 w1 ++ address) (le_bytes 8 hash) secrets) where
+    (v : code.Option Which) (told : match_of v ≡ matching sip_hash_method (le_bytes 8 w0 ++ le_bytes 8 w1 ++ address) (le_bytes 8 hash) secrets) where
   by_match : by_hash (age clock (be32_at body 12)) (match_of v) ≡ judge_body sip_hash_method secrets clock address body
   by_match =
       let cookies : le_bytes 8 w0 ++ le_bytes 8 w1 ≡ take 16 body = ap₂ (λ (x y : List ℕ). x ++ y) first_is second_is ∙ sym (take-add 8 8 body) in
       rw (told, cookies, third-is) (sym (judge_matching sip_hash_method secrets clock address body long version))
 
-  pub judge_hash : v ≡ Nothing → bad 2 ≡ judge_body sip_hash_method secrets clock address body
-  judge_hash nothing = ap (λ (x : Match). by_hash (age clock (be32_at body 12)) (match_of x)) (sym nothing) ∙ by_match
+  pub judge_hash : v ≡ code.None → bad 2 ≡ judge_body sip_hash_method secrets clock address body
+  judge_hash nothing = ap (λ (x : code.Option Which). by_hash (age clock (be32_at body 12)) (match_of x)) (sym nothing) ∙ by_match
 
-  pub judge_time : (w : Which) (stamp : ℕ) (a : ℤ) (r : Verdict) → v ≡ By w → stamp ≡ be32_at body 12
+  pub judge_time : (w : Which) (stamp : ℕ) (a : ℤ) (r : Verdict) → v ≡ code.Some w → stamp ≡ be32_at body 12
       → mag a < 2147483648 → a ≡ age clock stamp → finding r ≡ by_time (to_z w32 (of_z w32 a)) w
       → finding r ≡ judge_body sip_hash_method secrets clock address body
   judge_time w stamp a r by stamped ok aged told' =
-      told' ∙ ap (λ (x : ℤ). by_time x w) (to_z-of_z w32 a (record { sfits = ok }) ∙ aged ∙ ap (age clock) stamped) ∙ ap (λ (x : Match). by_hash (age clock (be32_at body 12)) (match_of x)) (sym by) ∙ by_match
+      told' ∙ ap (λ (x : ℤ). by_time x w) (to_z-of_z w32 a (record { sfits = ok }) ∙ aged ∙ ap (age clock) stamped) ∙ ap (λ (x : code.Option Which). by_hash (age clock (be32_at body 12)) (match_of x)) (sym by) ∙ by_match
 
--- ---- the refusals. A test that was turned round tells of `not`
+-- ---- the refusals
 
-module _ (mode : Mode) (secrets : Secrets) (clock : ℕ) (address body : List ℕ) (a : Bool) (is-a : a ≡ is_address address) where
-  pub refuse_address : not a ≡ true → refused 2 ≡ judgement sip_hash_method mode secrets clock address body
+module _ (mode : Mode) (secrets : Secrets) (clock : ℕ) (address body : List ℕ) where
+  pub refuse_address : is_address address ≡ false → refused 2 ≡ judgement sip_hash_method mode secrets clock address body
   unfolding judgement checking_refusal
-  refuse_address e = rw (← is-a, not_true a e)
+  refuse_address no' = rw no' refl
 
-  module _ (e : not a ≡ false) (d : Bool) (is-d : d ≡ is_disabled mode) where
-    ignores : (n : Mode) → is_disabled n ≡ true → ignored ≡ verdict sip_hash_method n secrets clock address body
-    ignores Disabled f = refl
-    ignores Enabled f = absurd (false≢true f)
-    ignores Enforced f = absurd (false≢true f)
-
-    pub judge_ignored : d ≡ true → found ignored ≡ judgement sip_hash_method mode secrets clock address body
+  module _ (is : is_address address ≡ true) where
+    pub judge_ignored : is_disabled mode ≡ true → found ignored ≡ judgement sip_hash_method mode secrets clock address body
     unfolding judgement checking_refusal
-    judge_ignored f = ap found (ignores mode (sym is-d ∙ f)) ∙ rw (← is-a, not_false a e, ← is-d, f)
+    judge_ignored off = by mode off
+      where
+        by : (n : Mode) → is_disabled n ≡ true → found ignored ≡ judgement sip_hash_method n secrets clock address body
+        by Disabled f = rw is refl
+        by Enabled f = absurd (false≢true f)
+        by Enforced f = absurd (false≢true f)
 
-    module _ (f : d ≡ false) (b : Bool) (is_b : b ≡ is_body body) where
-      pub refuse_body : not b ≡ true → refused 10 ≡ judgement sip_hash_method mode secrets clock address body
+    module _ (on : is_disabled mode ≡ false) where
+      pub refuse_body : is_body body ≡ false → refused 10 ≡ judgement sip_hash_method mode secrets clock address body
       unfolding judgement checking_refusal
-      refuse_body g = rw (← is-a, not_false a e, ← is-d, f, ← is_b, not_true b g)
+      refuse_body no' = rw (is, on, no') refl
 
-      judges : (n : Mode) → is_disabled n ≡ false → judge_body sip_hash_method secrets clock address body ≡ verdict sip_hash_method n secrets clock address body
-      judges n f = when_on (λ (k : Mode). judge_body sip_hash_method secrets clock address body ≡ verdict sip_hash_method k secrets clock address body) refl refl n f
-
-      pub found_body : not b ≡ false → found (judge_body sip_hash_method secrets clock address body) ≡ judgement sip_hash_method mode secrets clock address body
-      unfolding judgement checking_refusal
-      found_body g = ap found (judges mode (sym is-d ∙ f)) ∙ rw (← is-a, not_false a e, ← is-d, f, ← is_b, not_false b g)
-
-      pub judge_found : not b ≡ false → (v : Verdict) → finding v ≡ judge_body sip_hash_method secrets clock address body
+      pub judge_found : is_body body ≡ true → (v : Verdict) → finding v ≡ judge_body sip_hash_method secrets clock address body
           → found (finding v) ≡ judgement sip_hash_method mode secrets clock address body
-      judge_found g v told = ap found told ∙ found_body g
-
--- a body is judged only from an address
-pub is_address_lem : (address : List ℕ) (a : Bool) → a ≡ is_address address → not a ≡ false → is_address address ≡ true
-is_address_lem address a is-a e = sym is-a ∙ not_false a e
+      unfolding judgement checking_refusal
+      judge_found yes' v told =
+          ap found (told ∙ when_on (λ (k : Mode). judge_body sip_hash_method secrets clock address body ≡ verdict sip_hash_method k secrets clock address body) refl refl mode on)
+          ∙ rw (is, on, yes') refl

@@ -1,103 +1,90 @@
 // The verdict on a COOKIE body.
-ghost use Rattle.std.specs.Prelude.{◌≡◌, true, ◌++◌, ◌≤◌, length};
-ghost use Rattle.octets.specs.Numbers.{le_bytes, be32_at};
-ghost use Rattle.cookie.specs.Match.{match_of};
+ghost use Rattle.std.specs.Prelude.{◌≡◌, ◌≤◌, length};
+ghost use Rattle.octets.specs.Numbers.{be32_at};
+ghost use Rattle.cookie.specs.Hashed.{address_bytes};
 ghost use Rattle.verdict.specs.Findings.{finding};
-ghost use Rattle.cookie.specs.ServerCookie.{answer_of, sip_hash_method, matches, matching, judge_body, judgement, is_address};
+ghost use Rattle.cookie.specs.ServerCookie.{answer_of, sip_hash_method, judge_body, judgement};
 
-use crate::{Judged, Refusal};
-use secret::{Secret, Secrets};
-use verdict::{Mode, Reason, Verdict, Which};
-
-// The secret that matches, if one does.
-#[derive(Clone, Copy)]
-enum Match {
-    By(Which),
-    Nothing,
-}
+use crate::{Address, Hashed, Refusal};
+use secret::Secrets;
+use verdict::{Mode, Reason, Verdict};
 
 // Bytes 12 to 15 of a body as a number.
+#[tactic(auto, using(octets::proofs::ReadLaws::be32_part))]
 fn timestamp(body: &[u8]) -> u32
-    requires { 24 ≤ length body.now }
     ensures { result ≡ be32_at body.now 12 }
 {
-    octets::be32(body[12], body[13], body[14], body[15])
+    octets::be32(octets::bytes_at(body, 12))
 }
 
-// Step 2 for one secret.
-fn has_hash(secret: Secret, w0: u64, w1: u64, address: &[u8], hash: u64) -> bool
-    requires { is_address address.now ≡ true }
-    ensures { result ≡ matches sip_hash_method (le_bytes 8 w0 ++ le_bytes 8 w1 ++ address.now) (le_bytes 8 hash) secret }
-{
-    crate::hash(secret, w0, w1, address) == hash
+// What a server judges a cookie by: the secrets that it holds, its clock and the client's address.
+#[derive(Clone, Copy)]
+pub struct Setting {
+    pub secrets: Secrets,
+    pub clock: u32,
+    pub address: Address,
 }
 
-// Step 2: the generating secret first, and the other only where that one does not match.
-fn matching(secrets: Secrets, w0: u64, w1: u64, address: &[u8], hash: u64) -> Match
-    requires { is_address address.now ≡ true }
-    ensures { match_of result ≡ matching sip_hash_method (le_bytes 8 w0 ++ le_bytes 8 w1 ++ address.now) (le_bytes 8 hash) secrets }
-{
-    if has_hash(secrets.generating(), w0, w1, address, hash) {
-        return Match::By(Which::Generating);
-    }
-    match secrets {
-        Secrets::One(_) => Match::Nothing,
-        Secrets::Two {
-            generating: _,
-            other,
-        } => {
-            if has_hash(other, w0, w1, address, hash) {
-                Match::By(Which::Other)
-            } else {
-                Match::Nothing
+impl Setting {
+    // The three steps on a body whose server cookie is 16 bytes. Inlined, as `Hashed::hash` is.
+    #[tactic(auto, using(crate::proofs::ServerLaws::judge_hash, crate::proofs::ServerLaws::judge_time, crate::proofs::BodyLaws::judge_version))]
+    #[inline(always)]
+    fn judge_server(self, body: &[u8]) -> Verdict
+        requires { length body.now ≡ 24 }
+        ensures { finding result ≡ judge_body sip_hash_method self.secrets self.clock (address_bytes self.address) body.now }
+    {
+        if body[8] != 1 {
+            return Verdict::Bad(Reason::Method);
+        }
+        let hashed = Hashed {
+            client: crate::word(body, 0),
+            front: crate::word(body, 8),
+            address: self.address,
+        };
+        match hashed.matching(self.secrets, crate::word(body, 16)) {
+            None => Verdict::Bad(Reason::Hash),
+            Some(secret) => {
+                verdict::by_time(verdict::serial_age(self.clock, timestamp(body)), secret)
             }
+        }
+    }
+
+    // The verdict on a COOKIE body of any bytes, outside mode Disabled.
+    #[tactic(auto, using(crate::proofs::BodyLaws::judge_8, crate::proofs::BodyLaws::judge_other))]
+    #[inline(always)]
+    pub fn judge_body(self, body: &[u8]) -> Verdict
+        ensures { finding result ≡ judge_body sip_hash_method self.secrets self.clock (address_bytes self.address) body.now }
+    {
+        match body.len() {
+            8 => Verdict::ClientOnly,
+            24 => self.judge_server(body),
+            _ => Verdict::Bad(Reason::Method),
         }
     }
 }
 
-// The three steps on a body whose server cookie is 16 bytes.
-fn judge_server(secrets: Secrets, clock: u32, address: &[u8], body: &[u8]) -> Verdict
-    requires { (length body.now ≡ 24) × (is_address address.now ≡ true) }
-    ensures { finding result ≡ judge_body sip_hash_method secrets clock address.now body.now }
-{
-    if body[8] != 1 {
-        return Verdict::Bad(Reason::Method);
-    }
-    let w0 = crate::word(body, 0);
-    let w1 = crate::word(body, 8);
-    let hash = crate::word(body, 16);
-    match matching(secrets, w0, w1, address, hash) {
-        Match::Nothing => Verdict::Bad(Reason::Hash),
-        Match::By(secret) => verdict::by_time(verdict::serial_age(clock, timestamp(body)), secret),
-    }
-}
-
-// The verdict outside mode Disabled.
-fn judge_body(secrets: Secrets, clock: u32, address: &[u8], body: &[u8]) -> Verdict
-    requires { is_address address.now ≡ true }
-    ensures { finding result ≡ judge_body sip_hash_method secrets clock address.now body.now }
-{
-    if body.len() == 8 {
-        return Verdict::ClientOnly;
-    }
-    if body.len() != 24 {
-        return Verdict::Bad(Reason::Method);
-    }
-    judge_server(secrets, clock, address, body)
-}
-
 // Judges a COOKIE body of any bytes: the verdict, or the refusal of what can't be judged.
-pub fn judge(mode: Mode, secrets: Secrets, clock: u32, address: &[u8], body: &[u8]) -> Judged
+#[tactic(auto, using(crate::proofs::ServerLaws::refuse_address, crate::proofs::ServerLaws::judge_ignored, crate::proofs::ServerLaws::refuse_body, crate::proofs::ServerLaws::judge_found, crate::proofs::MessageLaws::not_read, crate::proofs::MessageLaws::is_read))]
+pub fn judge(
+    mode: Mode,
+    secrets: Secrets,
+    clock: u32,
+    address: &[u8],
+    body: &[u8],
+) -> Result<Verdict, Refusal>
     ensures { answer_of result ≡ judgement sip_hash_method mode secrets clock address.now body.now }
 {
-    if !crate::is_address(address) {
-        return Judged::Refused(Refusal::Address);
-    }
+    let address = Address::read(address).ok_or(Refusal::Address)?;
     if verdict::is_disabled(mode) {
-        return Judged::Found(Verdict::Ignored);
+        return Ok(Verdict::Ignored);
     }
     if !edns::is_cookie_length(body.len()) {
-        return Judged::Refused(Refusal::Body);
+        return Err(Refusal::Body);
     }
-    Judged::Found(judge_body(secrets, clock, address, body))
+    let setting = Setting {
+        secrets,
+        clock,
+        address,
+    };
+    Ok(setting.judge_body(body))
 }

@@ -1,5 +1,7 @@
 -- Laws of decimal numbers, a turn of the loop that reads one. Assumes nothing.
-use Prim.Native.Nat.{ℕ, ◌+◌, ◌-◌, ◌*◌, ◌/◌, ◌^◌, ◌<◌, ◌≤◌}
+use Prim.Native.Nat.{ℕ, ◌+◌, ◌-◌, ◌*◌, ◌^◌, ◌<◌, ◌≤◌}
+use Rattle.std.specs.Int.{IsInRange, IsOutOfRange}
+use Rattle.std.proofs.Common.{inl, inr}
 use mathlib.Core.Path.{◌≡◌, refl, sym}
 use mathlib.Core.Bool.{Bool, true, false, cond}
 use mathlib.Core.List.{List, [], ◌∷◌}
@@ -10,16 +12,16 @@ use borrow.Author.Tests.{lt-ltb, le-ltb, le-leb, lt-leb, ltb-false}
 use lib.Dec.{ltb}
 use lib.ListN.{length, drop, get_or, drop_of_length-le}
 use lib.Seq.{drop-cons}
+use Rattle.std.specs.Prelude.{Result, Ok, Err, OkIff}
+use Rattle.std.specs.Result.{result_ok}
 use Rattle.decimal.specs.Decimal.{is_digit, followed_by, decimal, below, told}
 
-digit : (b : ℕ) → 48 ≤ b → b ≤ 57 → is_digit b ≡ true
-digit b low high = rw (le-leb 48 b low, le-leb b 57 high)
+digit : (b : ℕ) → IsInRange 48 57 b → is_digit b ≡ true
+digit b (low, high) = rw (le-leb 48 b low, le-leb b 57 high)
 
-low_no_digit : (b : ℕ) → b < 48 → is_digit b ≡ false
-low_no_digit b low = rw (lt-leb 48 b low)
-
-high_no_digit : (b : ℕ) → 57 < b → is_digit b ≡ false
-high_no_digit b high = rw (le-leb 48 b (omega arith), lt-leb b 57 high)
+no_digit : (b : ℕ) → IsOutOfRange 48 57 b → is_digit b ≡ false
+no_digit b (inl low) = rw (lt-leb 48 b low)
+no_digit b (inr high) = rw (le-leb 48 b (omega arith), lt-leb b 57 high)
 
 -- more digits make no number smaller
 too_great : (limit n : ℕ) (s : List ℕ) → limit ≤ n → below limit (followed_by n s) ≡ none
@@ -48,27 +50,21 @@ module _ (limit : ℕ) (s : List ℕ) (n i : ℕ) (so_far : followed_by n (drop 
   from : i < length s → drop i s ≡ get_or s i 0 ∷ drop (i + 1) s
   from h = rw (add-one, drop-cons s i 0)
 
-  pub stop_low : i < length s → get_or s i 0 < 48 → none ≡ below limit (decimal s)
+  pub stop : i < length s → IsOutOfRange 48 57 (get_or s i 0) → none ≡ below limit (decimal s)
   unfolding followed_by below
-  stop_low h low = rw (← so_far, from h, low_no_digit (get_or s i 0) low)
+  stop h out = rw (← so_far, from h, no_digit (get_or s i 0) out)
 
-  pub stop_high : i < length s → 57 < get_or s i 0 → none ≡ below limit (decimal s)
-  unfolding followed_by below
-  stop_high h high = rw (← so_far, from h, high_no_digit (get_or s i 0) high)
-
-  pub on : i < length s → 48 ≤ get_or s i 0 → get_or s i 0 ≤ 57 → followed_by (n * 10 + (get_or s i 0 - 48)) (drop (i + 1) s) ≡ decimal s
+  pub on : i < length s → IsInRange 48 57 (get_or s i 0) → followed_by (n * 10 + (get_or s i 0 - 48)) (drop (i + 1) s) ≡ decimal s
   unfolding followed_by
-  on h low high = rw (from h, digit (get_or s i 0) low high) at so_far
+  on h within = rw (from h, digit (get_or s i 0) within) at so_far
 
   pub end : length s ≤ i → n < limit → some n ≡ below limit (decimal s)
   unfolding followed_by below
   end past fits = rw (← so_far, drop_of_length-le s past, lt-ltb n limit fits)
 
--- what the code asks before it adds a digit
-pub stop_great : (s : List ℕ) (n i : ℕ) → followed_by n (drop i s) ≡ decimal s → i < length s → 48 ≤ get_or s i 0 → get_or s i 0 ≤ 57
-    → (18446744073709551615 - (get_or s i 0 - 48)) / 10 < n → none ≡ below (2 ^ 64) (decimal s)
-stop_great s n i so_far h low high great =
-    rw (← on (2 ^ 64) s n i so_far h low high) (sym (too_great (2 ^ 64) (n * 10 + (get_or s i 0 - 48)) (drop (i + 1) s) (omega arith)))
+  -- the next number is too great
+  pub stop_great : i < length s → IsInRange 48 57 (get_or s i 0) → limit ≤ n * 10 + (get_or s i 0 - 48) → none ≡ below limit (decimal s)
+  stop_great h within great = rw (← on h within) (sym (too_great limit (n * 10 + (get_or s i 0 - 48)) (drop (i + 1) s) great))
 
 -- ---- a smaller limit
 
@@ -81,18 +77,18 @@ narrower (some n) = go (ltb n (2 ^ 64)) refl
     go true e = refl
     go false e = let past : 2 ^ 64 ≤ n = ltb-false n (2 ^ 64) e in rw (le-ltb n 256 (omega arith))
 
-module _ (x : Option ℕ) (ok : Bool) (n : ℕ) (read : told ok n ≡ below (2 ^ 64) x) where
-  again : below 256 (told ok n) ≡ below 256 x
-  again = rw read (narrower x)
+pub byte_none : (x : Option ℕ) → none ≡ below (2 ^ 64) x → none ≡ below 256 x
+unfolding below
+byte_none x known = rw (← narrower x, ← known) refl
 
-  pub byte_yes : ok ≡ true → n < 256 → some n ≡ below 256 x
-  unfolding below
-  byte_yes yes' small = rw (← again, yes', lt-ltb n 256 small)
+-- the cast to a byte, of a number that fits 64 bits
+pub byte_some : {E : Type 0} (x : Option ℕ) (n : ℕ) (r : Result ℕ E) → some n ≡ below (2 ^ 64) x → OkIff r (n < 256) n → told (result_ok r) ≡ below 256 x
+unfolding below
+byte_some x n (Ok m) known (small, same) = rw (← narrower x, ← known, lt-ltb n 256 small, same) refl
+byte_some x n (Err _) known great = rw (← narrower x, ← known, le-ltb n 256 (omega (arith, great))) refl
 
-  pub byte_great : ok ≡ true → 256 ≤ n → none ≡ below 256 x
-  unfolding below
-  byte_great yes' great = rw (← again, yes', le-ltb n 256 great)
+-- what each return of `number` and each turn of its loop cites
+pub ruleset turns = (none_empty, begins, stop, stop_great, on, end)
 
-  pub byte_not : ok ≡ false → none ≡ below 256 x
-  unfolding below
-  byte_not not-ok = rw (← again, not-ok)
+-- what the returns of `byte` cite
+pub ruleset bytes = (byte_none, byte_some)

@@ -1,5 +1,6 @@
 -- What a decimal number says. No paper: these are this project's own words for the text that its programs read. Assumes nothing.
-use Rattle.std.specs.Prelude.{ℕ, ◌+◌, ◌-◌, ◌*◌, Bool, true, false, cond, ◌&&◌, List, [], ◌∷◌, leb, ltb}
+use Rattle.std.specs.Prelude
+use Rattle.std.specs.Prelude.{ℕ, ◌+◌, ◌-◌, ◌*◌, Bool, true, false, cond, ◌&&◌, List, [], ◌∷◌, leb, ltb, Some, None}
 use Rattle.std.proofs.Math.Option.{Option, none, some}
 
 -- a decimal digit, as ASCII
@@ -21,7 +22,7 @@ unfoldable pub below : ℕ → Option ℕ → Option ℕ
 below limit none = none
 below limit (some n) = cond (ltb n limit) (some n) none
 
--- what a field tells
-abbrev pub told : Bool → ℕ → Option ℕ
-told true n = some n
-told false n = none
+-- what an answer tells
+abbrev pub told : Prelude.Option ℕ → Option ℕ
+told (Some n) = some n
+told None = none

@@ -3,10 +3,8 @@ pub mod ArgumentLaws
 pub mod Back
 pub mod CallLaws
 pub mod Cases
-pub mod JudgeLaws
 pub mod Known
 pub mod LedgerLaws
 pub mod Likewise
 pub mod Members
 pub mod Steps
-pub mod WordLaws

@@ -1,4 +1,5 @@
 pub mod AllCalls
+pub mod Arguments
 pub mod Calls
 pub mod Cases
 pub mod Claims

@@ -1,38 +1,15 @@
-// A fresh option made, and the hash that it stands on.
-ghost use Rattle.std.specs.Prelude.{◌≡◌, length};
+// Cookies made and judged, and the hash that they stand on.
+ghost use Rattle.std.specs.Prelude.{◌≡◌};
 ghost use Rattle.siphash.specs.SipHash.{sip_hash24};
-ghost use Rattle.cookie.specs.CookieOption.{written_number};
-ghost use Rattle.dnscookie.specs.Calls.{◌leaving◌, make_call, hash_call};
+ghost use Rattle.dnscookie.specs.Calls.{◌leaving◌, make_call, hash_call, judge_call};
 
-use crate::arguments;
-use cookie::{Refusal, Written};
+use crate::arguments::Fault;
+use crate::{arguments, words};
+use cookie::Hashed;
 use secret::Secret;
 
-fn written_number(written: Written) -> u32
-    ensures { result ≡ written_number written }
-{
-    match written {
-        Written::Done => 0,
-        Written::Refused(refusal) => match refusal {
-            Refusal::Output => 1,
-            Refusal::Address => 2,
-            Refusal::Body => 10,
-            Refusal::NotKept => 100,
-        },
-    }
-}
-
-// The eight bytes of a client cookie.
-fn client_of(client: &[u8]) -> [u8; 8]
-    requires { length client.now ≡ 8 }
-    ensures { result ≡ client.now }
-{
-    [
-        client[0], client[1], client[2], client[3], client[4], client[5], client[6], client[7],
-    ]
-}
-
 // Writes a fresh option under the generating secret to the front of the output.
+#[tactic(auto, unfolding(crate::specs::Calls::make_call, crate::specs::Calls::maker_refusal))]
 pub fn dnscookie_make(
     secrets: &[u8],
     clock: u32,
@@ -42,48 +19,61 @@ pub fn dnscookie_make(
 ) -> u32
     ensures { result leaving output.new ≡ make_call secrets.now clock address.now client.now output.old }
 {
-    let wrong = arguments::maker_refusal(secrets, client);
-    if wrong != 0 {
-        return wrong;
+    let secrets = match arguments::secrets_in(secrets) {
+        Ok(secrets) => secrets,
+        Err(fault) => return fault.into(),
+    };
+    let Ok(client) = <&[u8; 8]>::try_from(client) else {
+        return Fault::Client.into();
+    };
+    match cookie::write_fresh(output, secrets.generating(), clock, address, client) {
+        Ok(()) => 0,
+        Err(refusal) => u8::from(refusal).into(),
     }
-    let secret = crate::secret_at(secrets, 0);
-    let eight = client_of(client);
-    written_number(cookie::write_fresh(output, secret, clock, address, &eight))
 }
 
-// The hash of a message. What a cookie's hash is made of is 20 or 32 bytes, and is hashed by its words.
+// Judges a COOKIE body.
+#[tactic(auto, unfolding(crate::specs::Calls::judge_call, crate::specs::Calls::holder_refusal))]
+pub fn dnscookie_judge(mode: u32, secrets: &[u8], clock: u32, address: &[u8], body: &[u8]) -> u64
+    ensures { result ≡ judge_call mode secrets.now clock address.now body.now }
+{
+    let mode = match arguments::mode_in(mode) {
+        Ok(mode) => mode,
+        Err(fault) => return fault.into(),
+    };
+    let secrets = match arguments::secrets_in(secrets) {
+        Ok(secrets) => secrets,
+        Err(fault) => return fault.into(),
+    };
+    match cookie::judge(mode, secrets, clock, address, body) {
+        Ok(verdict) => words::verdict_word(verdict),
+        Err(refusal) => u8::from(refusal).into(),
+    }
+}
+
+// The hash of a message. What a cookie's hash is of, 20 or 32 bytes, is hashed by its words.
+#[tactic(auto, using(crate::proofs::CallLaws::hash_is))]
 fn hash_of(secret: Secret, message: &[u8]) -> u64
     ensures { result ≡ sip_hash24 secret message.now }
 {
-    let k0 = secret.k0;
-    let k1 = secret.k1;
-    if message.len() == 20 {
-        let w0 = crate::word_at(message, 0);
-        let w1 = crate::word_at(message, 8);
-        let last = octets::le32(message[16], message[17], message[18], message[19]);
-        return siphash::siphash24_20(k0, k1, w0, w1, last);
+    match Hashed::read(message) {
+        Some(hashed) => hashed.hash(secret),
+        None => siphash::siphash24(secret, message),
     }
-    if message.len() == 32 {
-        let w0 = crate::word_at(message, 0);
-        let w1 = crate::word_at(message, 8);
-        let w2 = crate::word_at(message, 16);
-        let w3 = crate::word_at(message, 24);
-        return siphash::siphash24_32(k0, k1, w0, w1, w2, w3);
-    }
-    siphash::siphash24(secret, message)
 }
 
 // Writes the hash of a message to the front of the output.
+#[tactic(auto, unfolding(crate::specs::Calls::hash_call, crate::specs::Calls::hash_refusal))]
 pub fn dnscookie_siphash24(secret: &[u8], message: &[u8], output: &mut [u8]) -> u32
     ensures { result leaving output.new ≡ hash_call secret.now message.now output.old }
 {
-    if secret.len() != 16 {
-        return arguments::WRONG_SECRETS;
-    }
+    let Ok(secret) = <&[u8; 16]>::try_from(secret) else {
+        return Fault::Secrets.into();
+    };
     if output.len() < 8 {
-        return arguments::NO_ROOM;
+        return Fault::NoRoom.into();
     }
-    let hash = hash_of(crate::secret_at(secret, 0), message);
+    let hash = hash_of(Secret::read(secret), message);
     octets::put(output, 0, &octets::le64_bytes(hash));
     0
 }

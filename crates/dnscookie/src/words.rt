@@ -2,28 +2,15 @@
 ghost use Rattle.std.specs.Prelude.{◌≡◌, ◌+◌, ◌*◌, ◌^◌, ◌<◌, ◌≤◌};
 ghost use Rattle.verdict.specs.Findings.{finding, step_of};
 ghost use Rattle.verdict.specs.ReplyTable.{owed_of, sent_of};
-ghost use Rattle.dnscookie.specs.Words.{finding_number, which_number, age_number, natural_of, in32, sent_number, option_number};
+ghost use Rattle.dnscookie.specs.Words.{finding_number, which_number, age_number, in32, sent_number, option_number};
 
 use verdict::{Action, Carried, Reason, Reply, Verdict, Which};
-
-// A number that is not negative, and 0 for one that is.
-fn natural(number: i32) -> u64
-    ensures { (result ≡ natural_of number) × (result < 2 ^ 31) }
-{
-    if number < 0 {
-        return 0;
-    }
-    number as u64
-}
 
 // An age in 32 bits, in two's complement.
 fn in32(age: i32) -> u64
     ensures { (result ≡ in32 age) × (result < 2 ^ 32) }
 {
-    if age < 0 {
-        return 0xffffffff - natural(-1 - age);
-    }
-    natural(age)
+    u64::from(age.cast_unsigned())
 }
 
 fn bad_number(reason: Reason) -> u64

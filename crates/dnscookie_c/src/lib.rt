@@ -1,4 +1,5 @@
-// What C calls of crates/dnscookie, under its names in include/dnscookie.h. Each function is that crate's, with its promise.
+// What C calls of crates/dnscookie, under its names in include/dnscookie.h. Each function is that crate's, with its promise: no crate can
+// stand on a static library, so that they are said twice.
 #![tactic(auto)]
 
 ghost use Rattle.std.specs.Prelude.{◌≡◌};

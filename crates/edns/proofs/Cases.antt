@@ -12,7 +12,7 @@ names_hold =
     record {
       inside = λ x. refl;
       past = refl;
-      past_is_9 = refl;
+      past_is_9 = λ p. refl;
       without = refl;
       with_one = λ x. refl;
     }

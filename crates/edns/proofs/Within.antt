@@ -1,6 +1,6 @@
 -- What a list of options says lies within the data. Assumes nothing.
 use Prim.Native.Nat.{ℕ, zero, suc, ◌+◌}
-use mathlib.Core.Path.{◌≡◌, sym, ap, subst, ◌∙◌}
+use mathlib.Core.Path.{◌≡◌, sym, subst}
 use mathlib.Core.Bool.{Bool, true, false, cond}
 use mathlib.Core.List.{List, [], ◌∷◌}
 use mathlib.Core.Option.{Option, none, some, bind}
@@ -12,12 +12,8 @@ use lib.ListN.{length}
 use Rattle.octets.specs.Numbers.{be16_at}
 use Rattle.octets.specs.Refusals.{◌when◌, first, answered}
 use Rattle.octets.proofs.EachLaws.{Inside, Each, IfOne, IfList, each_bind, each_listed}
-use Rattle.edns.specs.Answers.{listing_of}
 use Rattle.edns.specs.Options.{option_at, options_in, options_from, options, options_of, option_past, is_cookie, first_cookie, Listed, refused, no_cookie, cookie, place, cookie_in}
-use Rattle.edns.specs.declared.Cookie.{Cookie}
 use Rattle.edns.specs.declared.EdnsOption.{EdnsOption}
-use Rattle.edns.specs.declared.Listing.{Listing}
-use Rattle.edns.specs.declared.Listing.TheVariants.{First}
 
 -- an option's body lies in so many bytes
 abbrev pub BodyInside : ℕ → EdnsOption → Type 0
@@ -71,5 +67,5 @@ place_inside d = pick (first (9 when option_past d ∷ [])) (first_cookie (optio
     pick (suc k) c i = tt
 
 -- the COOKIE body that a walk found
-pub cookie_inside : (d : List ℕ) (l : Listing) → listing_of l ≡ cookie_in d → (c : Cookie) → l ≡ First c → Inside (length d) c.start c.end
-cookie_inside d l walked c k = subst (PlaceInside (length d)) (sym walked ∙ ap listing_of k) (place_inside d)
+pub cookie_inside : (d : List ℕ) (start end : ℕ) → cookie start end ≡ cookie_in d → Inside (length d) start end
+cookie_inside d start end walked = subst (PlaceInside (length d)) (sym walked) (place_inside d)

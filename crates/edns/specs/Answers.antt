@@ -1,19 +1,19 @@
 -- What the code's answers say, in the terms of the definitions. The cases `NamesHold` pin each. Assumes nothing.
-use Rattle.std.proofs.Math.Option.{Option, none, some}
+use Rattle.std.specs.Prelude.{Option, Some, None, Result, Ok, Err}
+use Rattle.std.proofs.Math.Option.{none, some}
+use Rattle.std.proofs.Math.Option as math
 use Rattle.edns.specs.Options.{Listed, refused, no_cookie, cookie}
+use Rattle.edns.specs.declared.Cookie.{Cookie}
 use Rattle.edns.specs.declared.EdnsOption.{EdnsOption}
-use Rattle.edns.specs.declared.Found.{Found}
-use Rattle.edns.specs.declared.Found.TheVariants as found_as
-use Rattle.edns.specs.declared.Listing.{Listing}
-use Rattle.edns.specs.declared.Listing.TheVariants as listing-as
+use Rattle.edns.specs.declared.Past.{Past}
 
--- the option that starts at a place
-abbrev pub found_of : Found → Option EdnsOption
-found_of (found_as.Inside o) = some o
-found_of found_as.Past = none
+-- the option at a place
+abbrev pub found_of : Option EdnsOption → math.Option EdnsOption
+found_of (Some o) = some o
+found_of None = none
 
--- with document 01's number
-abbrev pub listing_of : Listing → Listed
-listing_of listing-as.Past = refused 9
-listing_of listing-as.NoCookie = no_cookie
-listing_of (listing-as.First c) = cookie c.start c.end
+-- a list of options, with document 01's number
+abbrev pub listing_of : Result (Option Cookie) Past → Listed
+listing_of (Err past) = refused 9
+listing_of (Ok None) = no_cookie
+listing_of (Ok (Some c)) = cookie c.start c.end

@@ -1,21 +1,20 @@
 -- Cases that pin the definitions of Options.antt and Answers.antt, with bytes written out. Assumes nothing.
-use Rattle.std.specs.Prelude.{◌≡◌, true, false, List, [], ◌∷◌, ◌++◌, map, ℕ, ◌≤◌, replicate}
+use Rattle.std.specs.Prelude.{◌≡◌, true, false, List, [], ◌∷◌, ◌++◌, map, ℕ, ◌≤◌, replicate, Some, None, Ok, Err}
 use Rattle.std.proofs.Math.Option.{none, some}
 use Rattle.octets.specs.Numbers.{up_to}
 use Rattle.edns.specs.Answers.{found_of, listing_of}
 use Rattle.edns.specs.Options.{option_at, options, is_cookie_length, refused, no_cookie, cookie, cookie_in}
 use Rattle.edns.specs.declared.Cookie.{Cookie}
 use Rattle.edns.specs.declared.EdnsOption.{EdnsOption}
-use Rattle.edns.specs.declared.Found.TheVariants as found_as
-use Rattle.edns.specs.declared.Listing.TheVariants as listing-as
+use Rattle.edns.specs.declared.Past.{Past}
 
--- what the enums say, case by case
+-- what the answers say, case by case
 pub record NamesHold : Type 0 where
-  pub inside : (o : EdnsOption) → found_of (found_as.Inside o) ≡ some o
-  pub past : found_of found_as.Past ≡ none
-  pub past_is_9 : listing_of listing-as.Past ≡ refused 9
-  pub without : listing_of listing-as.NoCookie ≡ no_cookie
-  pub with_one : (c : Cookie) → listing_of (listing-as.First c) ≡ cookie c.start c.end
+  pub inside : (o : EdnsOption) → found_of (Some o) ≡ some o
+  pub past : found_of None ≡ none
+  pub past_is_9 : (p : Past) → listing_of (Err p) ≡ refused 9
+  pub without : listing_of (Ok None) ≡ no_cookie
+  pub with_one : (c : Cookie) → listing_of (Ok (Some c)) ≡ cookie c.start c.end
 
 -- NSID (3) without a body, 4 bytes
 abbrev pub nsid : List ℕ

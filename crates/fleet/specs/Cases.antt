@@ -1,6 +1,6 @@
 -- Cases that pin each definition of Calls.antt and Answers.antt, and `Forward` of Claims.antt. A, B and C are document 01's secrets, `client` and `v4` P1's client cookie and address, `v6` P5's address.
 -- Bytes are literal: those of P1 to P6 as RFC 9018 prints them, the others what OpenSSL's SIPHASH gives. Assumes nothing.
-use Rattle.std.specs.Prelude.{ℕ, suc, ◌%◌, ◌≡◌, true, false, List, [], ◌∷◌, ◌++◌, map, ℤ, pos, negsuc, take, drop, replicate}
+use Rattle.std.specs.Prelude.{ℕ, suc, ◌%◌, ◌≡◌, true, false, List, [], ◌∷◌, ◌++◌, map, ℤ, pos, negsuc, take, drop, replicate, Ok, Err}
 use Rattle.octets.specs.Numbers.{printed, up_to}
 use Rattle.secret.specs.Secret.{secret_of}
 use Rattle.verdict.specs.Findings.{Finding}
@@ -25,8 +25,7 @@ use Rattle.fleet.specs.Calls.{Call, Answer, Reply, Entry, ◌leaving◌, ◌got�
 use Rattle.fleet.specs.Calls.Answer.{accepted, refused, no_secrets, made, judged}
 use Rattle.fleet.specs.Calls.Call.{step, making, checking}
 use Rattle.fleet.specs.Claims.{Forward}
-use Rattle.fleet.specs.declared.Checked.TheVariants as checked-as
-use Rattle.fleet.specs.declared.Made.TheVariants as Made-as
+use Rattle.fleet.specs.declared.Fault.TheVariants.{NoSecrets, Refused}
 
 -- ---- names
 
@@ -39,17 +38,17 @@ answers =
 -- what the enums say (100 is no number of document 01's, and no call gives it), which answers count as accepted and as refused, and the times
 pub record NamesHold : Type 0 where
   pub the_wait : wait ≡ 3601
-  pub made_done : made_answer Made-as.Done ≡ made
-  pub made_none : made_answer Made-as.NoSecrets ≡ no_secrets
-  pub made_refused : map (λ r. made_answer (Made-as.Refused r)) (refusal-as.Output ∷ refusal-as.Address ∷ refusal-as.Body ∷ refusal-as.NotKept ∷ [])
+  pub made_done : made_answer (Ok tt) ≡ made
+  pub made_none : made_answer (Err NoSecrets) ≡ no_secrets
+  pub made_refused : map (λ r. made_answer (Err (Refused r))) (refusal-as.Output ∷ refusal-as.Address ∷ refusal-as.Body ∷ refusal-as.NotKept ∷ [])
       ≡ refused 1 ∷ refused 2 ∷ refused 10 ∷ refused 100 ∷ []
-  pub checked_none : checked_answer checked-as.NoSecrets ≡ no_secrets
-  pub checked_refused : map (λ r. checked_answer (checked-as.Refused r)) (refusal-as.Output ∷ refusal-as.Address ∷ refusal-as.Body ∷ refusal-as.NotKept ∷ [])
+  pub checked_none : checked_answer (Err NoSecrets) ≡ no_secrets
+  pub checked_refused : map (λ r. checked_answer (Err (Refused r))) (refusal-as.Output ∷ refusal-as.Address ∷ refusal-as.Body ∷ refusal-as.NotKept ∷ [])
       ≡ refused 1 ∷ refused 2 ∷ refused 10 ∷ refused 100 ∷ []
-  pub checked_found : map (λ v. checked_answer (checked-as.Found v))
+  pub checked_found : map (λ v. checked_answer (Ok v))
       (verdict-as.Ignored ∷ verdict-as.Absent ∷ verdict-as.ClientOnly ∷ verdict-as.Bad reason-as.Method ∷ verdict-as.Bad reason-as.Hash ∷ verdict-as.Bad reason-as.Time ∷ [])
       ≡ judged ignored ∷ judged absent ∷ judged clientOnly ∷ judged (bad 1) ∷ judged (bad 2) ∷ judged (bad 3) ∷ []
-  pub checked_good : (a : ℤ) (which : Which) → checked_answer (checked-as.Found (verdict-as.Good a which)) ≡ judged (good a which)
+  pub checked_good : (a : ℤ) (which : Which) → checked_answer (Ok (verdict-as.Good a which)) ≡ judged (good a which)
   -- to a step: 0 is accepted, and any other number refused by it
   pub steps : map step_answer (0 ∷ 1 ∷ 2 ∷ 3 ∷ 4 ∷ 5 ∷ 6 ∷ 7 ∷ 8 ∷ 9 ∷ 10 ∷ [])
       ≡ accepted ∷ refused 1 ∷ refused 2 ∷ refused 3 ∷ refused 4 ∷ refused 5 ∷ refused 6 ∷ refused 7 ∷ refused 8 ∷ refused 9 ∷ refused 10 ∷ []

@@ -4,30 +4,31 @@ ghost use Rattle.octets.specs.Refusals.{answered};
 ghost use Rattle.cookie.specs.ServerCookie.{sip_hash_method, checking_refusal};
 ghost use Rattle.ledger.specs.Ledger.{view_of};
 ghost use Rattle.ledger.specs.Rules.{wait};
-ghost use Rattle.fleet.specs.Answers.{checked_answer};
+ghost use Rattle.fleet.specs.Answers.{checked_answer, fault_answer};
 ghost use Rattle.fleet.specs.Calls.{◌leaving◌, reply_to};
 ghost use Rattle.fleet.specs.Calls.Answer.{refused, no_secrets};
 ghost use Rattle.fleet.specs.Calls.Call.{checking};
 
-use crate::Checked;
-use cookie::{Judged, Refusal};
-use ledger::{Held, Ledger};
-use verdict::Mode;
+use crate::Fault;
+use cookie::Refusal;
+use ledger::Ledger;
+use verdict::{Mode, Verdict};
 
-// A checking by who holds no secrets.
-fn check_without(mode: Mode, address: &[u8], body: &[u8]) -> Checked
-    ensures { checked_answer result ≡ answered refused (checking_refusal mode address.now body.now) no_secrets }
+// Of a checking by who holds no secrets.
+#[tactic(auto, unfolding(cookie::specs::ServerCookie::checking_refusal))]
+fn check_without(mode: Mode, address: &[u8], body: &[u8]) -> Fault
+    ensures { fault_answer result ≡ answered refused (checking_refusal mode address.now body.now) no_secrets }
 {
     if !cookie::is_address(address) {
-        return Checked::Refused(Refusal::Address);
+        return Fault::Refused(Refusal::Address);
     }
     if verdict::is_disabled(mode) {
-        return Checked::NoSecrets;
+        return Fault::NoSecrets;
     }
     if !edns::is_cookie_length(body.len()) {
-        return Checked::Refused(Refusal::Body);
+        return Fault::Refused(Refusal::Body);
     }
-    Checked::NoSecrets
+    Fault::NoSecrets
 }
 
 // A member checks the COOKIE body that came from an address: the judge's verdict under its secrets. The ledger stays as it is.
@@ -38,20 +39,12 @@ pub fn check(
     time: u64,
     address: &[u8],
     body: &[u8],
-) -> Checked
+) -> Result<Verdict, Fault>
     ensures { checked_answer result leaving [] ≡ reply_to wait sip_hash_method (view_of ledger) (checking member mode time address.now body.now) }
 {
-    match ledger.secrets(member) {
-        Held::Nothing => check_without(mode, address, body),
-        Held::Holds(secrets) => match cookie::judge(
-            mode,
-            secrets,
-            crate::clock_at(time),
-            address,
-            body,
-        ) {
-            Judged::Found(verdict) => Checked::Found(verdict),
-            Judged::Refused(refusal) => Checked::Refused(refusal),
-        },
-    }
+    let Some(secrets) = ledger.secrets(member) else {
+        return Err(check_without(mode, address, body));
+    };
+    let clock = crate::clock_at(time);
+    Ok(cookie::judge(mode, secrets, clock, address, body)?)
 }

@@ -5,26 +5,28 @@ ghost use Rattle.cookie.specs.CookieOption.{fresh_refusal};
 ghost use Rattle.cookie.specs.ServerCookie.{sip_hash_method};
 ghost use Rattle.ledger.specs.Ledger.{view_of};
 ghost use Rattle.ledger.specs.Rules.{wait};
-ghost use Rattle.fleet.specs.Answers.{made_answer};
+ghost use Rattle.fleet.specs.Answers.{fault_answer, made_answer};
 ghost use Rattle.fleet.specs.Calls.{◌leaving◌, reply_to};
 ghost use Rattle.fleet.specs.Calls.Answer.{refused, no_secrets};
 ghost use Rattle.fleet.specs.Calls.Call.{making};
 
-use crate::Made;
-use cookie::{Refusal, Written};
-use ledger::{Held, Ledger};
+use crate::Fault;
+use cookie::Refusal;
+use ledger::Ledger;
 
-// A making by who holds no secrets: a refusal of the request table goes before.
-fn make_without(address: &[u8], output: &[u8]) -> Made
-    ensures { made_answer result ≡ answered refused (fresh_refusal output.now address.now) no_secrets }
+// Of a making by who holds no secrets: a refusal of the request table goes before. cookie's own tests stand in functions that want a
+// secret, so that they are asked here again.
+#[tactic(auto, unfolding(cookie::specs::CookieOption::fresh_refusal))]
+fn make_without(address: &[u8], output: &[u8]) -> Fault
+    ensures { fault_answer result ≡ answered refused (fresh_refusal output.now address.now) no_secrets }
 {
     if output.len() < 28 {
-        return Made::Refused(Refusal::Output);
+        return Fault::Refused(Refusal::Output);
     }
     if !cookie::is_address(address) {
-        return Made::Refused(Refusal::Address);
+        return Fault::Refused(Refusal::Address);
     }
-    Made::NoSecrets
+    Fault::NoSecrets
 }
 
 // A member makes a fresh cookie for a client: a COOKIE option of 28 bytes at the front of the output, under its generating secret.
@@ -36,20 +38,13 @@ pub fn make(
     client: &[u8; 8],
     address: &[u8],
     output: &mut [u8],
-) -> Made
+) -> Result<(), Fault>
     ensures { made_answer result leaving output.new ≡ reply_to wait sip_hash_method (view_of ledger) (making member time client.now address.now output.old) }
 {
-    match ledger.secrets(member) {
-        Held::Nothing => make_without(address, output),
-        Held::Holds(secrets) => match cookie::write_fresh(
-            output,
-            secrets.generating(),
-            crate::clock_at(time),
-            address,
-            client,
-        ) {
-            Written::Done => Made::Done,
-            Written::Refused(refusal) => Made::Refused(refusal),
-        },
-    }
+    let Some(secrets) = ledger.secrets(member) else {
+        return Err(make_without(address, output));
+    };
+    let clock = crate::clock_at(time);
+    cookie::write_fresh(output, secrets.generating(), clock, address, client)?;
+    Ok(())
 }

@@ -10,7 +10,7 @@ use Rattle.ledger.specs.Ledger.{fresh_ledger, accept, stepped}
 use Rattle.ledger.specs.Rules.{refusal, secrets_of}
 
 pub names_hold : NamesHold
-names_hold = record { kinds = refl; refusals = refl; accepted = refl; refused = λ r. refl; nothing = refl; holds = λ s. refl }
+names_hold = record { kinds = refl; refusals = refl; accepted = refl; refused = λ r. refl; nothing = refl; holds = λ s. refl; numbered = refl }
 
 pub records_hold : RecordsHold
 unfolding read_step secret_of le_number be_number be_bytes printed

@@ -5,7 +5,6 @@ pub mod Facts
 pub mod Holding
 pub mod Machine
 pub mod Move
-pub mod MoveLaws
 pub mod OneAnswer
 pub mod People
 pub mod Rows

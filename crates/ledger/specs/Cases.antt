@@ -1,20 +1,19 @@
 -- Cases that pin the definitions of this crate: small journals with document 01's answers, its sample journal, rows that win over others, each line of the stage table, and whole
 -- ledgers field by field. The wait is document 01's, and A, B and C are its secrets. Assumes nothing.
-use Rattle.std.specs.Prelude.{ℕ, ◌≡◌, Bool, true, false, cond, List, [], ◌∷◌, ◌++◌, map, eqb, ltb}
+use Rattle.std.specs.Prelude.{ℕ, ◌≡◌, Bool, true, false, cond, List, [], ◌∷◌, ◌++◌, map, eqb, ltb, Some, None, Ok, Err}
 use Rattle.std.proofs.Math.Option.{Option, none, some}
 use Rattle.octets.specs.Numbers.{printed}
 use Rattle.secret.specs.Secrets.{generating_of, other_of}
 use Rattle.secret.specs.declared.Secret.{Secret}
 use Rattle.secret.specs.declared.Secrets.{Secrets}
 use Rattle.secret.specs.declared.Secrets.TheVariants.{One, Two}
-use Rattle.ledger.specs.declared.Answer.TheVariants as answer-as
-use Rattle.ledger.specs.declared.Held.TheVariants as held-as
+use Rattle.ledger.specs.declared.kinds.Kind.TheVariants as kind-as
 use Rattle.ledger.specs.declared.Ledger.{Ledger}
 use Rattle.ledger.specs.declared.Refusal.{Refusal}
 use Rattle.ledger.specs.declared.Refusal.TheVariants as refusal-as
 use Rattle.ledger.specs.declared.Step.{Step}
 use Rattle.ledger.specs.Account.{account}
-use Rattle.ledger.specs.Answers.{refusal_number, answer_number, held_of}
+use Rattle.ledger.specs.Answers.{refusal_number, answer_number, held_of, kind_number}
 use Rattle.ledger.specs.Claims.{member_steps}
 use Rattle.ledger.specs.Journal.{read_step, START, OPEN, LEARN, SWITCH, DROP, CANCEL}
 use Rattle.ledger.specs.Rules.{View, wait, refusal, stage_table, secrets_of}
@@ -27,10 +26,11 @@ pub record NamesHold : Type 0 where
   pub refusals : map refusal_number (refusal-as.Kind ∷ refusal-as.Time ∷ refusal-as.Earlier ∷ refusal-as.Again ∷ refusal-as.NotOpen ∷ refusal-as.OtherSecret ∷ refusal-as.NoMember
       ∷ refusal-as.OtherStage ∷ refusal-as.OthersApart ∷ refusal-as.Wait ∷ [])
       ≡ 1 ∷ 2 ∷ 3 ∷ 4 ∷ 5 ∷ 6 ∷ 7 ∷ 8 ∷ 9 ∷ 10 ∷ []
-  pub accepted : answer_number answer-as.Accepted ≡ 0
-  pub refused : (r : Refusal) → answer_number (answer-as.Refused r) ≡ refusal_number r
-  pub nothing : held_of held-as.Nothing ≡ none
-  pub holds : (s : Secrets) → held_of (held-as.Holds s) ≡ some s
+  pub accepted : answer_number (Ok tt) ≡ 0
+  pub refused : (r : Refusal) → answer_number (Err r) ≡ refusal_number r
+  pub nothing : held_of None ≡ none
+  pub holds : (s : Secrets) → held_of (Some s) ≡ some s
+  pub numbered : map kind_number (kind-as.Start ∷ kind-as.Open ∷ kind-as.Learn ∷ kind-as.Switch ∷ kind-as.Drop ∷ kind-as.Cancel ∷ []) ≡ 0 ∷ 1 ∷ 2 ∷ 3 ∷ 4 ∷ 5 ∷ []
 
 -- a record as document 01 lays it out: kind, member, six spare bytes, time, secret
 abbrev pub entry : ℕ → ℕ → ℕ → ℕ → List ℕ

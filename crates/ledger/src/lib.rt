@@ -13,56 +13,43 @@ use secret::{Secret, Secrets};
 use stages::Stages;
 
 mod journal;
+mod kinds;
 mod moves;
 mod rules;
 mod table;
 
-// Why a step is refused: document 01's refusals 1 to 10.
-#[derive(Clone, Copy)]
+pub use kinds::Kind;
+pub use table::answer_number;
+
+// Why a step is refused, by document 01's numbers.
+#[derive(Clone, Copy, Debug, PartialEq, Eq)]
 pub enum Refusal {
-    // 1: no kind of step.
-    Kind,
-    // 2: a time that is too great.
-    Time,
-    // 3: a time before the last accepted step's.
-    Earlier,
-    // 4: START when started, OPEN when open.
-    Again,
-    // 5: before START, or with no rollover open.
-    NotOpen,
-    // 6: OPEN with the current secret, or another secret than the open rollover's.
-    OtherSecret,
-    // 7: START of 0 members or too many, or no member's number.
-    NoMember,
-    // 8: a member that is not at the stage from which its step starts.
-    OtherStage,
-    // 9: others that are not far enough, or too far to cancel.
-    OthersApart,
-    // 10: DROP too soon after the last SWITCH.
-    Wait,
-}
-
-#[derive(Clone, Copy)]
-pub enum Answer {
-    Accepted,
-    Refused(Refusal),
-}
-
-impl Answer {
-    // 0 for a step that is accepted, and otherwise the refusal's number.
-    pub fn number(self) -> u8
-        ensures { result ≡ answer_number self }
-    {
-        match self {
-            Answer::Accepted => 0,
-            Answer::Refused(reason) => table::refusal_number(reason),
-        }
-    }
+    // No kind of step.
+    Kind = 1,
+    // A time that is too great.
+    Time = 2,
+    // A time before the last accepted step's.
+    Earlier = 3,
+    // START when started, OPEN when open.
+    Again = 4,
+    // Before START, or with no rollover open.
+    NotOpen = 5,
+    // OPEN with the current secret, or another secret than the open rollover's.
+    OtherSecret = 6,
+    // START of 0 members or too many, or no member's number.
+    NoMember = 7,
+    // A member that is not at the stage from which its step starts.
+    OtherStage = 8,
+    // Others that are not far enough, or too far to cancel.
+    OthersApart = 9,
+    // DROP too soon after the last SWITCH.
+    Wait = 10,
 }
 
 // What a record of the journal says.
 #[derive(Clone, Copy)]
 pub struct Step {
+    // The number of its kind, or any other byte: no `Kind`, since `read_step` and row 1 speak of every record.
     pub kind: u8,
     // The count in START; not looked at in OPEN and CANCEL.
     pub member: u8,
@@ -70,22 +57,8 @@ pub struct Step {
     pub secret: Secret,
 }
 
-// The kinds.
-impl Step {
-    pub const START: u8 = 0;
-
-    pub const OPEN: u8 = 1;
-
-    pub const LEARN: u8 = 2;
-
-    pub const SWITCH: u8 = 3;
-
-    pub const DROP: u8 = 4;
-
-    pub const CANCEL: u8 = 5;
-}
-
-// Where a secret is not held it is zero.
+// Where a secret is not held it is zero, and no Option: the definitions (`view_of`, and a snapshot's) speak of every value of these
+// fields, whether steps can give it or not.
 #[derive(Clone, Copy)]
 pub struct Ledger {
     pub started: bool,
@@ -99,20 +72,6 @@ pub struct Ledger {
     pub last_switch: u64,
 }
 
-// What comes of a step: the answer, and the ledger afterwards.
-#[derive(Clone, Copy)]
-pub struct Stepped {
-    pub answer: Answer,
-    pub ledger: Ledger,
-}
-
-// A member's secrets.
-#[derive(Clone, Copy)]
-pub enum Held {
-    Nothing,
-    Holds(Secrets),
-}
-
 impl Ledger {
     // The most members that a fleet can have.
     pub const MEMBERS: u8 = Stages::MEMBERS;
@@ -123,6 +82,7 @@ impl Ledger {
     pub const LATEST: u64 = 281474976710655;
 
     // Not started.
+    #[tactic(auto, unfolding(crate::specs::Ledger::fresh_ledger))]
     pub fn fresh() -> Ledger
         ensures { result ≡ fresh_ledger }
     {
@@ -137,35 +97,28 @@ impl Ledger {
         }
     }
 
-    // A record of the journal on a ledger. A refusal leaves the ledger as it was.
-    pub fn step(self, bytes: &[u8; 32]) -> Stepped
-        ensures { answer_number result.answer leaving result.ledger ≡ stepped wait self (read_step bytes.now) }
+    // A record of the journal on a ledger. A refusal leaves the ledger as it was. In clauses `entry` and `exit` stand for `old` and `new`,
+    // since a ledger has a field `new`.
+    #[tactic(auto, unfolding(crate::specs::Ledger::stepped, crate::specs::Ledger::outcome))]
+    pub fn step(&mut self, bytes: &[u8; 32]) -> Result<(), Refusal>
+        ensures { answer_number result leaving self.exit.now ≡ stepped wait self.entry.now (read_step bytes.now) }
     {
-        let s = journal::read(bytes);
-        match rules::check(self, s) {
-            Answer::Accepted => Stepped {
-                answer: Answer::Accepted,
-                ledger: moves::accept(self, s),
-            },
-            Answer::Refused(reason) => Stepped {
-                answer: Answer::Refused(reason),
-                ledger: moves::keep(self),
-            },
-        }
+        let step = journal::read(bytes);
+        let kind = Kind::try_from(step.kind)?;
+        self.check(kind, step)?;
+        self.accept(kind, step);
+        Ok(())
     }
 
     // A member's secrets: nothing before START, nor for a number that is no member's.
-    pub fn secrets(self, member: u8) -> Held
-        ensures { held_of result ≡ secrets_of (view_of self) member }
+    #[tactic(auto, unfolding(crate::specs::Rules::secrets_of))]
+    pub fn secrets(&self, member: u8) -> Option<Secrets>
+        ensures { held_of result ≡ secrets_of (view_of self.now) member }
     {
-        let stages = self.stages;
-        let current = self.current;
-        let new = self.new;
-        if self.started {
-            if stages.is_present(member) {
-                return Held::Holds(table::secrets_at(stages.stage(member), current, new));
-            }
+        if self.started && self.stages.is_present(member) {
+            let stage = self.stages.stage(member);
+            return Some(table::secrets_at(stage, self.current, self.new));
         }
-        Held::Nothing
+        None
     }
 }

@@ -1,29 +1,30 @@
-// Document 01's tables: the numbers of the refusals, and the stage table.
+// Document 01's tables: the number of an answer, and the stage table.
 ghost use Rattle.std.specs.Prelude.{◌≡◌};
-ghost use Rattle.ledger.specs.Answers.{refusal_number};
+ghost use Rattle.ledger.specs.Answers.{refusal_number, answer_number};
 ghost use Rattle.ledger.specs.Rules.{stage_table};
 
 use crate::Refusal;
 use secret::{Secret, Secrets};
 
-pub fn refusal_number(reason: Refusal) -> u8
-    ensures { result ≡ refusal_number reason }
-{
-    match reason {
-        Refusal::Kind => 1,
-        Refusal::Time => 2,
-        Refusal::Earlier => 3,
-        Refusal::Again => 4,
-        Refusal::NotOpen => 5,
-        Refusal::OtherSecret => 6,
-        Refusal::NoMember => 7,
-        Refusal::OtherStage => 8,
-        Refusal::OthersApart => 9,
-        Refusal::Wait => 10,
+impl From<Refusal> for u8 {
+    ghost from_gives = { λ reason number. number ≡ refusal_number reason };
+
+    fn from(reason: Refusal) -> u8 {
+        reason as u8
     }
 }
 
-// What a member at a stage makes cookies with, and what else it accepts.
+// 0 for a step that is accepted, and otherwise the refusal's number.
+pub fn answer_number(answer: Result<(), Refusal>) -> u8
+    ensures { result ≡ answer_number answer }
+{
+    match answer {
+        Ok(()) => 0,
+        Err(reason) => u8::from(reason),
+    }
+}
+
+// What a member at a stage makes cookies with, and what else it accepts. The stage is the number that crate stages gives.
 pub fn secrets_at(stage: u8, current: Secret, new: Secret) -> Secrets
     ensures { result ≡ stage_table stage current new }
 {

@@ -1,102 +1,63 @@
 // Bytes in hexadecimal.
-ghost use Rattle.std.specs.Prelude.{◌≤◌, length};
+ghost use Rattle.std.specs.Prelude.{◌≡◌, ◌*◌, ◌/◌, ◌≤◌, IfSome, IsSome, length};
 
-// Whether a text was digit pairs, and how many bytes they gave.
-#[derive(Clone, Copy)]
-pub struct Decoded {
-    pub ok: bool,
-    pub count: usize,
+const DIGITS: &[u8; 16] = b"0123456789abcdef";
+
+// The byte of two digits.
+fn byte(high: u8, low: u8) -> Option<u8> {
+    let value = char::from(high).to_digit(16)? * 16 + char::from(low).to_digit(16)?;
+    Some(value as u8)
 }
 
-// The value of a hexadecimal digit, and 16 for any other byte.
-fn digit(b: u8) -> u8
-    ensures { result ≤ 16 }
+// Decodes a text of digit pairs, or `-` for no bytes, into the front of a buffer, and hands that part of it out.
+pub fn decode<'a>(text: &[u8], out: &'a mut [u8]) -> Option<&'a mut [u8]>
+    ensures pairs { IfSome result (λ part. length part.now ≡ length text.now / 2) }
+    ensures front { IfSome result (λ part. length part.now ≤ length out.old) }
 {
-    match b {
-        b'0'..=b'9' => b - b'0',
-        b'a'..=b'f' => b - b'a' + 10,
-        b'A'..=b'F' => b - b'A' + 10,
-        _ => 16,
+    if matches!(text, b"-") {
+        return Some(&mut out[..0]);
     }
-}
-
-// The hexadecimal digit of a value, and `?` for 16 and more.
-fn glyph(value: u8) -> u8 {
-    if value < 10 {
-        return b'0' + value;
+    if text.is_empty() || text.len() % 2 != 0 {
+        return None;
     }
-    if value < 16 {
-        return b'a' + (value - 10);
+    let part = out.get_mut(..text.len() / 2)?;
+    for (place, pair) in part.iter_mut().zip(text.chunks_exact(2)) {
+        *place = byte(pair[0], pair[1])?;
     }
-    b'?'
-}
-
-// Decodes a text of digit pairs, or `-` for no bytes, into the front of a buffer.
-pub fn decode(text: &[u8], out: &mut [u8]) -> Decoded
-    ensures { result.count ≤ length out.new }
-{
-    let none = Decoded {
-        ok: false,
-        count: 0,
-    };
-    if octets::same(text, b"-") {
-        return Decoded { ok: true, count: 0 };
-    }
-    let n = text.len() / 2;
-    if n == 0 {
-        return none;
-    }
-    if text.len() % 2 != 0 {
-        return none;
-    }
-    if out.len() < n {
-        return none;
-    }
-    let mut i = 0;
-    while i < n {
-        let high = digit(text[2 * i]);
-        let low = digit(text[2 * i + 1]);
-        if 15 < high {
-            return none;
-        }
-        if 15 < low {
-            return none;
-        }
-        out[i] = high * 16 + low;
-        i += 1;
-    }
-    Decoded { ok: true, count: n }
+    Some(part)
 }
 
 // Decodes a field that may have any length up to 65,535 bytes.
-pub fn decode_part(text: &[u8], out: &mut [u8]) -> Decoded
-    ensures { result.count ≤ length out.new }
+pub fn decode_part<'a>(text: &[u8], out: &'a mut [u8]) -> Option<&'a mut [u8]>
+    ensures pairs { IfSome result (λ part. length part.now ≡ length text.now / 2) }
+    ensures front { IfSome result (λ part. length part.now ≤ length out.old) }
 {
     if 131070 < text.len() {
-        return Decoded {
-            ok: false,
-            count: 0,
-        };
+        return None;
     }
     decode(text, out)
 }
 
-// Decodes a field that has to fill a place.
-pub fn fill(text: &[u8], place: &mut [u8]) -> bool {
-    let read = decode(text, place);
-    read.count == place.len()
+// Decodes a field of a fixed size.
+pub fn exact<const N: usize>(text: &[u8]) -> Option<[u8; N]>
+    ensures { IsSome result → length text.now / 2 ≡ N }
+{
+    let mut bytes = [0; N];
+    if decode(text, &mut bytes)?.len() == N {
+        Some(bytes)
+    } else {
+        None
+    }
 }
 
-// The digits of up to 256 bytes, at the front.
-pub(crate) fn digits(bytes: &[u8]) -> [u8; 512]
-    requires { length bytes.now ≤ 256 }
+// The digits of bytes, at the front of a buffer. `{b:02x}` would print the same by a write for each byte.
+pub(crate) fn encode<'a>(bytes: &[u8], room: &'a mut [u8]) -> &'a [u8]
+    requires { 2 * length bytes.now ≤ length room.old }
 {
-    let mut pairs = [b' '; 512];
-    let mut i = 0;
-    while i < bytes.len() {
-        pairs[2 * i] = glyph(bytes[i] / 16);
-        pairs[2 * i + 1] = glyph(bytes[i] % 16);
-        i += 1;
+    let digits = &mut room[..2 * bytes.len()];
+    for (pair, b) in digits.chunks_exact_mut(2).zip(bytes) {
+        pair[0] = DIGITS[(*b / 16) as usize];
+        pair[1] = DIGITS[(*b % 16) as usize];
     }
-    pairs
+    digits
 }

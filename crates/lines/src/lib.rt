@@ -1,9 +1,8 @@
-// The text that the programs read and print: lines of standard input, their fields, bytes in hexadecimal, what is
-// found of a cookie in words, standard output.
+// The text that the programs read and print: lines of standard input, their fields, bytes in hexadecimal, standard
+// output.
 // The promises here are bounds, which keep the programs safe. What the programs print is compared with stored outputs.
 #![tactic(auto)]
 
-pub mod answers;
 pub mod fields;
 pub mod hex;
 pub mod output;

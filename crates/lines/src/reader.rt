@@ -1,127 +1,131 @@
 // An input in lines, by way of a buffer that the caller lends.
-ghost use Rattle.std.specs.Prelude.{◌≡◌, ◌<◌, ◌≤◌, IfOk, length};
+ghost use Rattle.std.specs.Prelude.{◌≡◌, ◌<◌, ◌≤◌, IfOk, IfSome, length};
 
-use crate::{output, text};
 use std::io;
 use std::io::{ErrorKind, Read, Write};
 
-// A line, and what the buffer holds behind it.
-#[derive(Clone, Copy)]
-pub struct Cursor {
-    // Whether there is a line.
-    pub is_line: bool,
-    // The line's number, from 1.
-    pub number: u64,
-    // Where the line lies in the buffer, without its end.
-    pub start: usize,
-    pub end: usize,
-    // What is read already and not handed out yet lies from `next` up to `have`.
+// An input, and the buffer that it is read into. What is read already and not handed out yet lies from `next` up to
+// `have`: places, since the buffer is lent once and filled again and again.
+#[derive(Drop)]
+struct Lines<'a, R> {
+    input: &'a mut R,
+    buffer: &'a mut [u8],
     next: usize,
     have: usize,
     // Whether the input goes on.
     more: bool,
+    ghost in_order: { next ≤ have },
+    ghost within: { have ≤ length buffer.now },
 }
 
-// Before the first line.
-pub fn start() -> Cursor {
-    Cursor {
-        is_line: false,
-        number: 0,
-        start: 0,
-        end: 0,
-        next: 0,
-        have: 0,
-        more: true,
-    }
+// What comes next.
+enum Found<'a> {
+    // A line, without its end.
+    Line(&'a [u8]),
+    // A line that does not fit into the buffer.
+    Long,
+    End,
 }
 
-// A line whose end was found.
-fn whole_line(number: u64, start: usize, end: usize, have: usize) -> Cursor
-    requires { end < have }
-    ensures { (result.start ≡ start) × (result.end ≡ end) }
-{
-    Cursor {
-        is_line: true,
-        number,
-        start,
-        end,
-        next: end + 1,
-        have,
-        more: true,
+impl<'a, R: Read> Lines<'a, R> {
+    // The next line: out of what the buffer holds, or read.
+    fn next(&mut self) -> io::Result<Found<'_>> {
+        if !self.more {
+            return Ok(Found::End);
+        }
+        let start = self.next;
+        let have = self.have;
+        if let Some(n) = line_end(&self.buffer[start..have]) {
+            return Ok(self.line_to(start + n));
+        }
+        self.buffer.copy_within(start..have, 0);
+        self.next = 0;
+        self.have = have - start;
+        self.read_line()
     }
-}
 
-// What stands at the buffer's front when the input ends: a line that lacks its end, unless it is empty.
-fn last_line(number: u64, end: usize) -> Cursor
-    ensures { (result.start ≡ 0) × (result.end ≡ end) }
-{
-    Cursor {
-        is_line: 0 < end,
-        number,
-        start: 0,
-        end,
-        next: 0,
-        have: 0,
-        more: false,
-    }
-}
-
-// The next line: out of what the buffer holds, or read. A line that does not fit into the buffer is told to the user,
-// and then there is no line any more. An input that fails is an error, and then there is none either: the buffer keeps
-// its length, but what it holds has moved, and the cursor does not fit it any more.
-pub fn next(
-    input: &mut impl Read,
-    out: &mut impl Write,
-    buffer: &mut [u8],
-    cursor: Cursor,
-) -> io::Result<Cursor>
-    ensures line { IfOk result (λ c. (c.start ≤ c.end) × (c.end ≤ length buffer.new)) }
-    ensures kept { length buffer.new ≡ length buffer.old }
-{
-    let number = std::num::wrapping_add_u64(cursor.number, 1);
-    let at = cursor.next;
-    let have = cursor.have;
-    if !cursor.more {
-        return Ok(last_line(number, 0));
-    }
-    if at < have {
-        if have <= buffer.len() {
-            let n = text::find(&buffer[at..have], b'\n');
-            if n < have - at {
-                return Ok(whole_line(number, at, at + n, have));
+    // Reads behind the start of a line, which stands at the buffer's front, until the line's end is there.
+    fn read_line(&mut self) -> io::Result<Found<'_>> {
+        while self.have < self.buffer.len() {
+            let have = self.have;
+            let count = read_some(self.input, &mut self.buffer[have..])?;
+            if count == 0 {
+                return Ok(self.last_line());
+            }
+            self.have = have + count;
+            if let Some(n) = line_end(&self.buffer[have..have + count]) {
+                return Ok(self.line_to(have + n));
             }
         }
+        Ok(Found::Long)
     }
-    let kept = text::shift(buffer, at, have);
-    read_line(input, out, buffer, kept, number)
+
+    // The line up to its end, which stands in what was read.
+    fn line_to(&mut self, end: usize) -> Found<'_>
+        requires behind { self.old.next ≤ end }
+        requires read { end < self.old.have }
+    {
+        let start = self.next;
+        self.next = end + 1;
+        Found::Line(&self.buffer[start..end])
+    }
+
+    // What stands at the buffer's front when the input ends: a line that lacks its end, unless it is empty.
+    fn last_line(&mut self) -> Found<'_> {
+        self.more = false;
+        match &self.buffer[..self.have] {
+            [] => Found::End,
+            line => Found::Line(line),
+        }
+    }
 }
 
-// Reads behind the start of a line, which stands at the buffer's front, until the line's end is there.
-fn read_line(
-    input: &mut impl Read,
-    out: &mut impl Write,
-    buffer: &mut [u8],
-    kept: usize,
-    number: u64,
-) -> io::Result<Cursor>
-    ensures line { IfOk result (λ c. (c.start ≤ c.end) × (c.end ≤ length buffer.new)) }
-    ensures kept { length buffer.new ≡ length buffer.old }
+fn line_end(bytes: &[u8]) -> Option<usize>
+    ensures { IfSome result (λ n. n < length bytes.now) }
 {
-    let mut have = kept;
-    while have < buffer.len() {
-        let count = read_some(input, &mut buffer[have..])?;
-        if count == 0 {
-            return Ok(last_line(number, have));
+    bytes.iter().position(|b| *b == b'\n')
+}
+
+// Answers each line of an input. A comment or an empty line is printed as it is; any other is handed to a closure, and
+// where that has no answer, the line is told to be bad, by its number, from 1. A line that does not fit into the buffer
+// is told too, and is the last; so is one at which a read or a write fails.
+// Nothing says that an input ends, and a proved loop has to: a u64 counts the lines.
+pub fn each<R: Read, W: Write, F: FnMut(&mut W, &[u8]) -> Option<io::Result<()>>>(
+    input: &mut R,
+    out: &mut W,
+    buffer: &mut [u8],
+    mut answer: F,
+) -> io::Result<()>
+    requires { F.IsAlwaysCallable answer }
+    ensures { length buffer.new ≡ length buffer.old }
+{
+    let mut lines = Lines {
+        input,
+        buffer,
+        next: 0,
+        have: 0,
+        more: true,
+    };
+    for number in 1..=u64::MAX {
+        match lines.next()? {
+            Found::Line(line) if is_comment(line) => {
+                out.write_all(line)?;
+                writeln!(out)?;
+            }
+            Found::Line(line) => match answer(out, line) {
+                Some(answered) => answered?,
+                None => writeln!(out, "bad line {number}")?,
+            },
+            Found::Long => return writeln!(out, "long line {number}"),
+            Found::End => return Ok(()),
         }
-        let all = have + count;
-        let n = text::find(&buffer[have..all], b'\n');
-        if n < count {
-            return Ok(whole_line(number, 0, have + n, all));
-        }
-        have = all;
     }
-    output::say_number(out, b"long line ", number)?;
-    Ok(last_line(number, 0))
+    Ok(())
+}
+
+// A comment or an empty line.
+fn is_comment(line: &[u8]) -> bool {
+    matches!(line, [] | [b'#', ..])
 }
 
 // One read, made again where a signal interrupted it, at most as often as a u64 counts. 0 bytes are the end of the

@@ -20,15 +20,15 @@ whole bytes output roomy = min-eq_left (omega arith)
 
 module _ (at : Lister) (bytes before : List ℕ) (roomy : Roomy bytes before) where
   -- the lines of every record, where they end, and the lister after them
-  record Lines (r : Listed) (output : List ℕ) : Type 0 where
-    pub past : r.lister ≡ lister_past (records bytes) at bytes
+  record Lines (r : Listed) (after : Lister) (output : List ℕ) : Type 0 where
+    pub past : after ≡ lister_past (records bytes) at bytes
     pub holds : output ≡ written before 0 (lines_of (records bytes) at bytes)
     pub ends : r.end ≡ length (lines_of (records bytes) at bytes)
     pub within : r.end + longest ≤ length before
 
-  lines_stand : (r : Listed) (output : List ℕ) → (block_of r output ≡ listed at bytes before) × (r.end ≤ r.records * longest) → Lines r output
+  lines_stand : (r : Listed) (after : Lister) (output : List ℕ) → (block_of r after output ≡ listed at bytes before) × (r.end ≤ r.records * longest) → Lines r after output
   unfolding listed
-  lines_stand r output h =
+  lines_stand r after output h =
       let e = h.0 in
       let n = whole bytes before roomy in
       let ends : r.end ≡ length (lines_of (records bytes) at bytes) = ap (λ (x : Block). x.end) e ∙ ap (λ (k : ℕ). length (lines_of k at bytes)) n in
@@ -40,12 +40,12 @@ module _ (at : Lister) (bytes before : List ℕ) (roomy : Roomy bytes before) wh
       }
 
   -- nothing is left over
-  pub put_lines : (r : Listed) (output : List ℕ) (last : Bool) (left : ℕ) → (block_of r output ≡ listed at bytes before) × (r.end ≤ r.records * longest)
+  pub put_lines : (r : Listed) (after : Lister) (output : List ℕ) (last : Bool) (left : ℕ) → (block_of r after output ≡ listed at bytes before) × (r.end ≤ r.records * longest)
       → (left ≡ cond last (length bytes % size) 0) × (left < size) → left ≡ 0
-      → PutOf at bytes last before r.lister r.end output
+      → PutOf at bytes last before after r.end output
   unfolding text_of
-  put_lines r output last left e l none =
-      let stand = lines_stand r output e in
+  put_lines r after output last left e l none =
+      let stand = lines_stand r after output e in
       let lines = lines_of (records bytes) at bytes in
       let text : lines ≡ text_of at bytes last = sym (append-nil lines) ∙ ap (λ (k : ℕ). lines ++ tail_line k) (sym none ∙ l.0) in
       let long : length output ≡ length before = ap length stand.holds ∙ length_written before 0 lines in
@@ -57,13 +57,13 @@ module _ (at : Lister) (bytes before : List ℕ) (roomy : Roomy bytes before) wh
       }
 
   -- the line of what is left over, behind the others
-  pub put_tail : (r : Listed) (output now : List ℕ) (last : Bool) (left end : ℕ) → (block_of r output ≡ listed at bytes before) × (r.end ≤ r.records * longest)
+  pub put_tail : (r : Listed) (after : Lister) (output now : List ℕ) (last : Bool) (left end : ℕ) → (block_of r after output ≡ listed at bytes before) × (r.end ≤ r.records * longest)
       → (left ≡ cond last (length bytes % size) 0) × (left < size) → (left ≡ 0 → ⊥)
       → end leaving now ≡ placed output r.end (short_line left)
-      → PutOf at bytes last before r.lister end now
+      → PutOf at bytes last before after end now
   unfolding text_of
-  put_tail r output now last left end e l some p =
-      let stand = lines_stand r output e in
+  put_tail r after output now last left end e l some p =
+      let stand = lines_stand r after output e in
       let lines = lines_of (records bytes) at bytes in
       let line = short_line left in
       let short : length line ≤ longest = short_fits left (omega (arith, l.1)) in

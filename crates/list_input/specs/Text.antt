@@ -1,11 +1,9 @@
 -- What is printed of a journal that is read in blocks. Assumes nothing.
-use Rattle.std.specs.Prelude.{ℕ, suc, ◌*◌, ◌/◌, ◌%◌, ◌≤◌, ◌≡◌, Bool, true, false, cond, List, [], ◌∷◌, ◌++◌, length}
+use Rattle.std.specs.Prelude.{ℕ, suc, ◌*◌, ◌/◌, ◌%◌, ◌≤◌, ◌≡◌, Bool, true, false, not, cond, Result, Ok, Err, List, [], ◌∷◌, ◌++◌, length}
 use Rattle.octets.specs.Runs.{written}
 use Rattle.rows.specs.Rows.{longest}
 use Rattle.listing.specs.declared.Lister.{Lister}
 use Rattle.listing.specs.Listing.{size, fresh_lister, lines_of, lister_past, tail_line, listing}
-use Rattle.list_input.specs.declared.Rest.{Rest}
-use Rattle.list_input.specs.declared.Rest.TheVariants.{More, Nothing, Failure}
 
 -- the whole records of some bytes
 abbrev pub records : List ℕ → ℕ
@@ -15,17 +13,21 @@ records bytes = length bytes / size
 unfoldable pub text_of : Lister → List ℕ → Bool → List ℕ
 text_of at bytes last = lines_of (records bytes) at bytes ++ tail_line (cond last (length bytes % size) 0)
 
--- whether the input has ended. That a read failed is no end
-abbrev pub is_end : Rest → Bool
-is_end More = false
-is_end Nothing = true
-is_end Failure = false
+-- whether the input has ended, by what is told of it: that, or the error of a read that failed, which is no end
+abbrev pub is_end : {E : Type 0} → Result Bool E → Bool
+is_end (Ok end) = end
+is_end (Err error) = false
+
+-- whether there is more to read; an error stays one
+abbrev pub goes_on : {E : Type 0} → Result Bool E → Result Bool E
+goes_on (Ok end) = Ok (not end)
+goes_on (Err error) = Err error
 
 -- how far a block was filled: if there is more to read, to its end
-abbrev pub FilledTo : Rest → ℕ → List ℕ → Type 0
-FilledTo More count block = count ≡ length block
-FilledTo Nothing count block = Unit {0}
-FilledTo Failure count block = Unit {0}
+abbrev pub FilledTo : {E : Type 0} → Result Bool E → ℕ → List ℕ → Type 0
+FilledTo (Ok false) count block = count ≡ length block
+FilledTo (Ok true) count block = Unit {0}
+FilledTo (Err error) count block = Unit {0}
 
 -- whole records
 abbrev pub Whole : List ℕ → Type 0

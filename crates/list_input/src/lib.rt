@@ -1,9 +1,9 @@
 // The journal lister: lists an input to an output, block by block.
 #![tactic(auto)]
 
-ghost use Rattle.std.specs.Prelude.{◌≡◌, cond, ◌≤◌, ◌<◌, ◌/◌, ◌%◌, ◌↔◌, IsErr, length};
+ghost use Rattle.std.specs.Prelude.{◌≡◌, cond, ◌≤◌, ◌<◌, ◌/◌, ◌%◌, length};
 ghost use Rattle.listing.specs.Listing.{size, lister_past};
-ghost use Rattle.list_input.specs.Text.{Whole, Roomy, is_end, FilledTo, PutOf};
+ghost use Rattle.list_input.specs.Text.{Whole, Roomy, is_end, goes_on, FilledTo, PutOf};
 
 use lines::reader;
 use listing::Lister;
@@ -16,51 +16,56 @@ const BLOCK: usize = 65536;
 // Room for the longest line of each record of a block, and one line more.
 const OUTPUT: usize = 98304;
 
-// What follows the bytes that were read.
-#[derive(Clone, Copy)]
-enum Rest {
-    More,
-    Nothing,
-    Failure,
-}
-
-// How far a block was filled, and the error if a read failed.
+// How far a block was filled, and whether the input ended there; an error if a read failed. A count and no part of the block, which is
+// lent for the next filling while the error waits.
 #[derive(Clone, Copy)]
 struct Filled {
     count: usize,
-    rest: Rest,
-    read: io::Result<()>,
+    end: io::Result<bool>,
 }
 
-// Reads until the block is full or there is no more, since a pipe hands over what it has.
+impl Filled {
+    // Whether the input has ended. That a read failed is no end.
+    fn is_end(self) -> bool
+        ensures { result ≡ is_end self.end }
+    {
+        self.end.unwrap_or(false)
+    }
+
+    // Whether there is more to read. A read that failed is told.
+    fn goes_on(self) -> io::Result<bool>
+        ensures { result ≡ goes_on self.end }
+    {
+        self.end.map(|end| !end)
+    }
+}
+
+// Reads until the block is full or there is no more, since a pipe hands over what it has. The count is what is told, so that a slice of
+// what is left to fill would be one thing more.
 fn fill(input: &mut impl Read, block: &mut [u8]) -> Filled
-    ensures filled { (result.count ≤ length block.new) × FilledTo result.rest result.count block.new }
-    ensures failed { IsErr result.read ↔ (result.rest ≡ Rest.Failure) }
+    ensures { (result.count ≤ length block.new) × FilledTo result.end result.count block.new }
 {
-    let mut have = 0;
-    while have < block.len() {
-        match reader::read_some(input, &mut block[have..]) {
-            Err(error) => {
-                return Filled {
-                    count: have,
-                    rest: Rest::Failure,
-                    read: Err(error),
-                };
-            }
+    let mut count = 0;
+    while count < block.len() {
+        match reader::read_some(input, &mut block[count..]) {
             Ok(0) => {
                 return Filled {
-                    count: have,
-                    rest: Rest::Nothing,
-                    read: Ok(()),
+                    count,
+                    end: Ok(true),
                 };
             }
-            Ok(count) => have += count,
+            Ok(more) => count += more,
+            Err(error) => {
+                return Filled {
+                    count,
+                    end: Err(error),
+                };
+            }
         }
     }
     Filled {
-        count: have,
-        rest: Rest::More,
-        read: Ok(()),
+        count,
+        end: Ok(false),
     }
 }
 
@@ -68,89 +73,38 @@ fn fill(input: &mut impl Read, block: &mut [u8]) -> Filled
 fn leftover(count: usize, last: bool) -> usize
     ensures { (result ≡ cond last (count % size) 0) × (result < size) }
 {
-    if last {
-        return count % Lister::SIZE;
-    }
-    0
+    if last { count % Lister::SIZE } else { 0 }
 }
 
-// The lister after a block, and where the text of the block ends.
-#[derive(Clone, Copy)]
-struct Put {
-    lister: Lister,
-    end: usize,
-}
-
-// Puts the text of a block.
-fn put_block(lister: Lister, block: &[u8], output: &mut [u8], last: bool) -> Put
+// Puts the text of a block, and tells where it ends. That the output has room for it (`Roomy`) stands here and in the two functions
+// below, since the part that was filled has another length each time.
+fn put_block(lister: &mut Lister, block: &[u8], output: &mut [u8], last: bool) -> usize
     requires { Roomy block.now output.old }
-    ensures { PutOf lister block.now last output.old result.lister result.end output.new }
+    ensures { PutOf lister.old block.now last output.old lister.new result output.new }
 {
-    let listed = lister.list(block, output);
-    let after = listed.lister;
-    let left = leftover(block.len(), last);
-    if left == 0 {
-        return Put {
-            lister: after,
-            end: listed.end,
-        };
-    }
-    Put {
-        lister: after,
-        end: rows::put_short(output, listed.end, left as u64),
+    let end = lister.list(block, output).end;
+    match leftover(block.len(), last) {
+        0 => end,
+        left => rows::put_short(output, end, left as u64),
     }
 }
 
-// Writes the lines whole, or fails.
-fn say(out: &mut impl Write, lines: &[u8]) -> io::Result<()> {
-    out.write_all(lines)
-}
-
-// The lister after a block, and whether its text was written.
-#[derive(Clone, Copy)]
-struct Said {
-    lister: Lister,
-    written: io::Result<()>,
-}
-
+// Lists a block to the output.
 fn say_block(
     out: &mut impl Write,
-    lister: Lister,
+    lister: &mut Lister,
     block: &[u8],
     output: &mut [u8],
     last: bool,
-) -> Said
+) -> io::Result<()>
     requires { Roomy block.now output.old }
-    ensures { result.lister ≡ lister_past (length block.now / size) lister block.now }
+    ensures { lister.new ≡ lister_past (length block.now / size) lister.old block.now }
 {
-    let put = put_block(lister, block, output, last);
-    let after = put.lister;
-    let end = put.end;
-    Said {
-        lister: after,
-        written: say(out, &output[..end]),
-    }
+    let end = put_block(lister, block, output, last);
+    out.write_all(&output[..end])
 }
 
-fn is_end(rest: Rest) -> bool
-    ensures { result ≡ is_end rest }
-{
-    match rest {
-        Rest::More => false,
-        Rest::Nothing => true,
-        Rest::Failure => false,
-    }
-}
-
-// Whether there is more to read.
-fn goes_on(rest: Rest) -> bool {
-    match rest {
-        Rest::More => true,
-        Rest::Nothing | Rest::Failure => false,
-    }
-}
-
-// A proved loop has to end, and nothing says that the input does: it counts down from a number that no run uses up.
+// A proved loop has to end, and nothing says that the input does: it takes a number of turns that no run uses up.
 fn list_blocks(
     input: &mut impl Read,
     out: &mut impl Write,
@@ -161,18 +115,13 @@ fn list_blocks(
     requires roomy { Roomy block.old output.old }
 {
     let mut lister = Lister::fresh();
-    let mut turns = u64::MAX;
-    while 0 < turns {
+    for _ in 0..u64::MAX {
         let filled = fill(input, block);
-        let count = filled.count;
-        let rest = filled.rest;
-        let said = say_block(out, lister, &block[..count], output, is_end(rest));
-        said.written?;
-        if !goes_on(rest) {
-            return filled.read;
+        let last = filled.is_end();
+        say_block(out, &mut lister, &block[..filled.count], output, last)?;
+        if !filled.goes_on()? {
+            return Ok(());
         }
-        lister = said.lister;
-        turns -= 1;
     }
     Ok(())
 }

@@ -1,17 +1,18 @@
 -- The lines of one record more, and what the loop holds after each. Assumes nothing.
-use Rattle.std.proofs.Common.{◌≡◌, ℕ, zero, suc, ◌+◌, ◌-◌, ◌*◌, ◌/◌, ◌%◌, ◌^◌, ◌<◌, ◌≤◌, Bool, ◌&&◌, eqb, List, [], ◌∷◌, ◌++◌, length, get_or, take, drop, sym, refl, ap, ◌∙◌, subst, ap₂, append_assoc, append-nil, add-zero, add-one, arith, length-append, length-drop, length-take-le, get_or-drop, drop-drop, le-leb}
+use Rattle.std.proofs.Common.{Result, ◌≡◌, ℕ, zero, suc, ◌+◌, ◌*◌, ◌/◌, ◌%◌, ◌^◌, ◌<◌, ◌≤◌, min, Bool, ◌&&◌, eqb, List, [], ◌++◌, length, get_or, take, drop, sym, refl, ap, ◌∙◌, subst, ap₂, append_assoc, append-nil, add-one, arith, length-append, length-take-le, drop-drop, le-leb, get_or-take}
+use Rattle.std.specs.Simd.{first_chunks}
 use native.Mathlib.Nat.{min-le_left, min-le_right}
 use Rattle.octets.specs.Runs.{written, fits}
-use Rattle.octets.proofs.RunLaws.{written_next, written_all, length_written}
+use Rattle.octets.proofs.RunLaws.{written_next, length_written}
 use Rattle.stages.proofs.BelowLaws.{count_most}
 use Rattle.stages.specs.Sets.{member_limit}
 use Rattle.stages.specs.Stages.{count_at, is_present, stage_of}
 use Rattle.stages.specs.declared.Stages.{Stages}
 use Rattle.ledger.specs.Answers.{answer_number}
 use Rattle.ledger.specs.declared.Ledger.{Ledger}
-use Rattle.ledger.specs.declared.Stepped.{Stepped}
+use Rattle.ledger.specs.declared.Refusal.{Refusal}
 use Rattle.ledger.specs.Journal.{read_step}
-use Rattle.ledger.specs.Ledger.{fresh_ledger, Outcome, ◌leaving◌, stepped}
+use Rattle.ledger.specs.Ledger.{Outcome, ◌leaving◌, stepped}
 use Rattle.ledger.specs.Rules.{wait}
 use Rattle.ledger.specs.Run.{offered}
 use Rattle.rows.proofs.RowLaws.{placed_room, row_fits}
@@ -19,26 +20,10 @@ use Rattle.rows.specs.declared.Row.{Row}
 use Rattle.rows.specs.Rows as rows
 use Rattle.rows.specs.Rows.{row_line, placed, longest}
 use Rattle.listing.specs.declared.Lister.{Lister}
-use Rattle.listing.specs.Listing.{fresh_lister, row_after, row_of, lister_after, lines_of, lister_past, room, Block, listed}
+use Rattle.listing.specs.Listing.{row_after, row_of, lister_after, lines_of, lister_past, room, Block, listed}
 use Rattle.listing.specs.Steps.{PutOf}
 
-pub fresh_is : (l : Ledger) → l ≡ fresh_ledger → ◌≡◌ {A = Lister} (record { ledger = l; number = 0 }) fresh_lister
-unfolding fresh_lister
-fresh_is l e = rw e
-
 -- ---- one record
-
--- the record at a place, copied into one of its own
-pub record_at_lem : (l : Ledger) (r : Stepped) (buffer bytes block : List ℕ) (start : ℕ) → length buffer ≡ 32
-    → bytes ≡ written buffer 0 (take (start + 32 - start) (drop start block))
-    → answer_number r.answer leaving r.ledger ≡ stepped wait l (read_step bytes)
-    → start + 32 ≤ length block
-    → answer_number r.answer leaving r.ledger ≡ offered wait l (take 32 (drop start block))
-record_at_lem l r buffer bytes block start b w e within =
-    let run = take 32 (drop start block) in
-    let long : length run ≡ 32 = length-take-le 32 (drop start block) (omega (arith, length-drop start block)) in
-    let size : start + 32 - start ≡ 32 = omega arith in
-    e ∙ ap (λ (x : List ℕ). offered wait l x) (w ∙ ap (λ (k : ℕ). written buffer 0 (take k (drop start block))) size ∙ written_all buffer run (b ∙ sym long))
 
 -- how many members are at a stage is a number of 8 bits
 pub count_fits : (r : ℕ) (present : ℕ → Bool) (stage : ℕ → ℕ) (k : ℕ) → r ≡ count_at present stage k → r < 256
@@ -59,33 +44,23 @@ row_is number kind answer rolling s c0 c1 c2 c3 n k a e0 e1 e2 e3 = (
       (count_fits c2 (is_present s) (stage_of s) 2 e2) (count_fits c3 (is_present s) (stage_of s) 3 e3),
 )
 
-head_same : (xs : List ℕ) → get_or xs 0 0 ≡ get_or (take 32 xs) 0 0
-head_same [] = refl
-head_same (x ∷ xs) = refl
-
--- the first byte of the record at a place
-first_byte : (block : List ℕ) (start : ℕ) → get_or block start 0 ≡ get_or (take 32 (drop start block)) 0 0
-first_byte block start = ap (λ (k : ℕ). get_or block k 0) (sym (add-zero start)) ∙ sym (get_or-drop start block 0 0) ∙ head_same (drop start block)
-
 row_of_same : (before : Lister) (bytes : List ℕ) (number kind : ℕ) (o : Outcome) → number ≡ (before.number + 1) % 2 ^ 64 → kind ≡ get_or bytes 0 0 → o ≡ offered wait before.ledger bytes
     → row_after number kind o ≡ row_of before bytes
 unfolding row_of
 row_of_same before bytes number kind o n k e = λ i. row_after (n i) (k i) (e i)
 
 -- the record listed: the ledger that its step left, the number after, and its line
-pub put_is : (before : Lister) (s : Stepped) (row : Row) (block output now : List ℕ) (start at end number answer kind : ℕ)
-    → answer_number s.answer leaving s.ledger ≡ offered wait before.ledger (take 32 (drop start block))
-    → start + 32 ≤ length block
+pub put_is : (before : Lister) (came : Result Unit Refusal) (after : Ledger) (row : Row) (bytes output now : List ℕ) (at end number answer : ℕ)
+    → answer_number came leaving after ≡ stepped wait before.ledger (read_step bytes)
     → number ≡ (before.number + 1) % 2 ^ 64
-    → answer ≡ answer_number s.answer
-    → (row ≡ row_after number (get_or block start 0) (answer leaving s.ledger)) × (length (row_line row) ≤ longest)
+    → answer ≡ answer_number came
+    → (row ≡ row_after number (get_or bytes 0 0) (answer leaving after)) × (length (row_line row) ≤ longest)
     → rows.◌leaving◌ end now ≡ placed output at (row_line row)
-    → PutOf before (take 32 (drop start block)) output at (record { ledger = s.ledger; number = number }) end now
+    → PutOf before bytes output at (record { ledger = after; number = number }) end now
 unfolding lister_after
-put_is before s row block output now start at end number answer kind e within n a r p =
-    let bytes = take 32 (drop start block) in
-    let came : (answer leaving s.ledger) ≡ offered wait before.ledger bytes = ap (λ (x : ℕ). x leaving s.ledger) a ∙ e in
-    let same : row ≡ row_of before bytes = r.0 ∙ row_of_same before bytes number (get_or block start 0) (answer leaving s.ledger) n (first_byte block start) came in
+put_is before came after row bytes output now at end number answer e n a r p =
+    let is : (answer leaving after) ≡ offered wait before.ledger bytes = ap (λ (x : ℕ). x leaving after) a ∙ e in
+    let same : row ≡ row_of before bytes = r.0 ∙ row_of_same before bytes number (get_or bytes 0 0) (answer leaving after) n refl is in
     record {
       lister = λ i. record { ledger = (e i).ledger; number = n i };
       line = p ∙ ap (λ (x : Row). placed output at (row_line x)) same;
@@ -125,13 +100,29 @@ pub record Sofar (at : Lister) (block before output : List ℕ) (lister : Lister
   pub ends : end ≡ length (lines_of i at block)
   pub within : end ≤ i * longest
 
--- there is room for each record that is listed, and it is whole
-module _ (block output : List ℕ) (records i : ℕ) (r : records ≡ room block output) (less : i < records) where
-  pub whole_record : i * 32 + 32 ≤ length block
-  whole_record = omega (arith, min-le_left (length block / 32) (length output / longest))
+-- the records as the code cuts them, and those of them that are listed
+record_at_lem : (k i : ℕ) (block : List ℕ) → i < k → get_or (first_chunks 32 k block) i [] ≡ take 32 (drop (i * 32) block)
+record_at_lem zero i block h = absurd (omega arith)
+record_at_lem (suc k) zero block h = refl
+record_at_lem (suc k) (suc i) block h = record_at_lem k i (drop 32 block) (omega arith) ∙ ap (take 32) (block_next i block)
 
-  room_for : i * longest + longest ≤ length output
-  room_for = omega (arith, min-le_right (length block / 32) (length output / longest))
+module _ (block output : List ℕ) (chunks : List (List ℕ)) (records : ℕ) (cut : chunks ≡ first_chunks 32 (length block / 32) block)
+    (many : length chunks ≡ length block / 32) (r : records ≡ min (length chunks) (length output / longest)) where
+  in_room : records ≡ room block output
+  in_room = r ∙ ap (λ (k : ℕ). min k (length output / longest)) many
+
+  taken : length (take records chunks) ≡ records
+  taken = length-take-le records chunks (omega (arith, min-le_left (length chunks) (length output / longest)))
+
+  module _ (i : ℕ) (less : i < length (take records chunks)) where
+    this_record : get_or (take records chunks) i [] ≡ take 32 (drop (i * 32) block)
+    this_record =
+        get_or-take records chunks i [] (omega (arith, taken))
+        ∙ ap (λ (x : List (List ℕ)). get_or x i []) cut
+        ∙ record_at_lem (length block / 32) i block (omega (arith, taken, many, min-le_left (length chunks) (length output / longest)))
+
+    room_for : i * longest + longest ≤ length output
+    room_for = omega (arith, taken, min-le_right (length chunks) (length output / longest))
 
 pub none_yet : (at : Lister) (block output : List ℕ) → Sofar at block output output at 0 0
 unfolding lines_of lister_past written fits
@@ -148,35 +139,35 @@ behind before output now lines text end next o e room short p =
     let at : end ≡ 0 + length lines = omega arith in
     (holds ∙ ap₂ (λ (x : List ℕ) (k : ℕ). written x k text) o at ∙ written_next before 0 lines text (omega arith), omega (arith, length-append lines text))
 
-pub one_more : (at lister after : Lister) (block before output now : List ℕ) (end next records i : ℕ) → records ≡ room block before → i < records
-    → Sofar at block before output lister end i → PutOf lister (take 32 (drop (i * 32) block)) output end after next now
+pub one_more : (at lister after : Lister) (block before output now : List ℕ) (chunks : List (List ℕ)) (end next records i : ℕ)
+    → chunks ≡ first_chunks 32 (length block / 32) block → length chunks ≡ length block / 32
+    → records ≡ min (length chunks) (length before / longest) → i < length (take records chunks)
+    → Sofar at block before output lister end i → PutOf lister (get_or (take records chunks) i []) output end after next now
     → Sofar at block before now after next (i + 1)
-one_more at lister after block before output now end next records i r less so put =
-    let bytes = take 32 (drop (i * 32) block) in
+one_more at lister after block before output now chunks end next records i cut many r less so put =
+    let bytes = get_or (take records chunks) i [] in
+    let there : bytes ≡ take 32 (drop (i * 32) block) = this_record block before chunks records cut many r i less in
     let line = row_line (row_of lister bytes) in
-    let same : line ≡ row_line (row_of (lister_past i at block) bytes) = ap (λ (x : Lister). row_line (row_of x bytes)) so.past in
+    let same : line ≡ row_line (row_of (lister_past i at block) (take 32 (drop (i * 32) block))) = ap₂ (λ (x : Lister) (y : List ℕ). row_line (row_of x y)) so.past there in
     let lines : lines_of (suc i) at block ≡ lines_of i at block ++ line = lines_next i at block ∙ ap (λ (x : List ℕ). lines_of i at block ++ x) (sym same) in
-    let fit = room_for block before records i r less in
+    let fit = room_for block before chunks records cut many r i less in
     let b = behind before output now (lines_of i at block) line end next so.holds so.ends (omega (arith, so.within)) put.short put.line in
     let far : length (lines_of i at block ++ line) ≡ length (lines_of i at block) + length line = length-append (lines_of i at block) line in
     subst (λ (k : ℕ). Sofar at block before now after next k) (sym (add-one i)) (record {
-      past = put.lister ∙ ap (λ (x : Lister). lister_after x bytes) so.past ∙ sym (past_next i at block);
+      past = put.lister ∙ ap₂ (λ (x : Lister) (y : List ℕ). lister_after x y) so.past there ∙ sym (past_next i at block);
       holds = b.0 ∙ ap (λ (x : List ℕ). written before 0 x) (sym lines);
       ends = b.1 ∙ ap length (sym lines);
       within = omega (arith, so.within, so.ends, put.short, b.1, far);
     })
 
-pub as_long : (at lister : Lister) (block before output : List ℕ) (end i : ℕ) → Sofar at block before output lister end i → length output ≡ length before
-as_long at lister block before output end i so = ap length so.holds ∙ length_written before 0 (lines_of i at block)
-
-pub all_listed : (at lister : Lister) (block before output : List ℕ) (end records i : ℕ) → records ≡ room block before → i ≤ records → records ≤ i
+pub all_listed : (at lister : Lister) (block before output : List ℕ) (chunks : List (List ℕ)) (end records i : ℕ)
+    → chunks ≡ first_chunks 32 (length block / 32) block → length chunks ≡ length block / 32
+    → records ≡ min (length chunks) (length before / longest) → i ≤ length (take records chunks) → length (take records chunks) ≤ i
     → Sofar at block before output lister end i
-    → ◌≡◌ {A = Block} (record { records = records; end = end; lister = lister; output = output }) (listed at block before)
+    → (◌≡◌ {A = Block} (record { records = records; end = end; lister = lister; output = output }) (listed at block before)) × (end ≤ records * longest)
 unfolding listed
-all_listed at lister block before output end records i r low high so =
-    let e : i ≡ room block before = omega arith in
+all_listed at lister block before output chunks end records i cut many r low high so =
+    let n : records ≡ room block before = in_room block before chunks records cut many r in
+    let e : i ≡ room block before = omega (arith, n, taken block before chunks records cut many r) in
     let all = subst (λ (k : ℕ). Sofar at block before output lister end k) e so in
-    λ j. record { records = r j; end = all.ends j; lister = all.past j; output = all.holds j }
-
-pub all_short : (at lister : Lister) (block before output : List ℕ) (end records i : ℕ) → i ≤ records → Sofar at block before output lister end i → end ≤ records * longest
-all_short at lister block before output end records i low so = omega (arith, so.within)
+    (λ j. record { records = n j; end = all.ends j; lister = all.past j; output = all.holds j }, omega (arith, n, all.within))

@@ -7,39 +7,36 @@ use mathlib.Core.Option.{Option, none, some, bind, get_or}
 use native.Mathlib.Omega.{arith}
 use borrow.Author.Tests.{ne_eqb}
 use lib.ListN.{length}
+use Rattle.std.specs.Prelude as code
+use Rattle.std.specs.Prelude.{Some, None, Ok, Err}
+use Rattle.std.specs.Option.{ok_or}
 use Rattle.message.specs.Answers.{end_of, outline_of}
+use Rattle.message.specs.declared.Fault.{Fault}
+use Rattle.message.specs.declared.Fault.TheVariants.{Malformed}
 use Rattle.octets.specs.Refusals.{◌when◌, first, answered, is_none}
 use Rattle.message.proofs.ScanLaws.{outcome, scan_is}
 use Rattle.message.specs.Message.{qdcount, ancount, nscount, arcount, questions_end, records, sections, opts, wrong_among, Outlined, refused, first_opt, outline}
 use Rattle.message.proofs.NameLaws.{name_past}
 use Rattle.message.specs.Record.{question_end, record_at}
-use Rattle.message.specs.Scan.{scan, scanned}
-use Rattle.message.specs.declared.End.{End}
-use Rattle.message.specs.declared.End.TheVariants.{At, Malformed}
-use Rattle.message.specs.declared.Outline.{Outline}
-use Rattle.message.specs.declared.Outline.TheVariants.{NoOpt}
+use Rattle.message.specs.Scan.{Outline, scan, scanned}
 use Rattle.message.specs.declared.Record.{Record}
 
 -- ---- questions
 
-module _ (s : List ℕ) (at : ℕ) (all : Option ℕ) where
-  pub questions_end_lem : (left : ℕ) → questions_end left s at ≡ all → left ≤ 0 → some at ≡ all
+-- those from the one of this number on end where all do, if they do so far
+module _ (s : List ℕ) (n i at : ℕ) (all : Option ℕ) (so_far : questions_end (n - i) s at ≡ all) where
+  pub questions_end_lem : n ≤ i → some at ≡ all
   unfolding questions_end
-  questions_end_lem zero so_far h = so_far
-  questions_end_lem (suc n) so_far h = absurd (omega arith)
+  questions_end_lem none_left = let zero_is : n - i ≡ 0 = omega arith in rw zero_is at so_far
 
-  module _ (e : End) (ended : end_of e ≡ question_end s at) where
-    pub questions_cut : (left : ℕ) → questions_end left s at ≡ all → 0 < left → e ≡ Malformed → none ≡ all
+  module _ (one_left : i < n) where
+    pub questions_cut : none ≡ question_end s at → none ≡ all
     unfolding questions_end bind
-    questions_cut zero so_far h k = absurd (omega arith)
-    questions_cut (suc n) so_far h k = sym (rw (← ended, k)) ∙ so_far
+    questions_cut ended = let left_is : n - i ≡ suc (n - (i + 1)) = omega arith in sym (rw (← ended)) ∙ rw left_is at so_far
 
-    pub questions_next : (left : ℕ) → questions_end left s at ≡ all → 0 < left → (end : ℕ) → e ≡ At end → questions_end (left - 1) s end ≡ all
+    pub questions_next : (end : ℕ) → some end ≡ question_end s at → questions_end (n - (i + 1)) s end ≡ all
     unfolding questions_end bind
-    questions_next zero so_far h end k = absurd (omega arith)
-    questions_next (suc n) so_far h end k =
-        let left_is : suc n - 1 ≡ n = omega arith in
-        rw left_is (sym (rw (← ended, k)) ∙ so_far)
+    questions_next end ended = let left_is : n - i ≡ suc (n - (i + 1)) = omega arith in sym (rw (← ended)) ∙ rw left_is at so_far
 
 -- ---- the answer
 
@@ -57,7 +54,7 @@ outcome_is true os = refl
 outcome_is false [] = refl
 outcome_is false (r ∷ rs) = refl
 
-scan_answered : (n : ℕ) (x : Option (List Record)) → outline_of (scan n NoOpt x) ≡ outcome_of n x
+scan_answered : (n : ℕ) (x : Option (List Record)) → outline_of (scan n None false x) ≡ outcome_of n x
 scan_answered n none = refl
 scan_answered n (some rs) = ap outline_of (scan_is n rs) ∙ outcome_is (wrong_among n rs) (opts rs)
 
@@ -78,15 +75,32 @@ module _ (s : List ℕ) where
   outline_short short = refused_6 (none_short short (qdcount s) (ancount s + nscount s + arcount s))
 
   -- the counts as the code reads them
-  module _ (q : ℕ) (q-is : q ≡ qdcount s) (e : End) (ended : end_of e ≡ questions_end q s 12) where
-    pub outline_no_questions : e ≡ Malformed → refused 6 ≡ outline s
+  module _ (q : ℕ) (q-is : q ≡ qdcount s) where
+    no_questions : none ≡ questions_end q s 12 → refused 6 ≡ outline s
     unfolding sections bind
-    outline_no_questions k = refused_6 (rw (← q-is, ← ended, k))
+    no_questions ended = refused_6 (rw (← q-is, ← ended))
 
-    pub outline_scanned : (at : ℕ) → e ≡ At at → (an ns ar : ℕ) → an ≡ ancount s → ns ≡ nscount s → ar ≡ arcount s
-        → (o : Outline) → o ≡ scanned (an + ns + ar - ar) NoOpt (an + ns + ar) s at → outline_of o ≡ outline s
+    scanned_from : (at : ℕ) → some at ≡ questions_end q s 12 → (an ns ar : ℕ) → an ≡ ancount s → ns ≡ nscount s → ar ≡ arcount s
+        → (o : Outline) → o ≡ scanned (an + ns + ar - ar) None false (an + ns + ar) s at → outline_of o ≡ outline s
     unfolding outline scanned
-    outline_scanned at k an ns ar an-is ns-is ar-is o walked =
+    scanned_from at ended an ns ar an-is ns-is ar-is o walked =
+        let all : sections s ≡ records (an + ns + ar) s at = rw (an-is, ns-is, ar-is) (sections_from s at (ended ∙ ap (λ (n : ℕ). questions_end n s 12) q-is)) in
         let before-is : an + ns + ar - ar ≡ an + ns = omega arith in
-        let all : sections s ≡ records (an + ns + ar) s at = rw (an-is, ns-is, ar-is) (sections_from s at (sym (ap end_of k) ∙ ended ∙ ap (λ (n : ℕ). questions_end n s 12) q-is)) in
         rw (all, ← an-is, ← ns-is) (ap outline_of walked ∙ rw before-is (scan_answered (an + ns) (records (an + ns + ar) s at)))
+
+    -- as the code asks where they end
+    module _ (f : code.Option ℕ) (ended : end_of f ≡ questions_end q s 12) where
+      pub outline_no_questions : (fault : Fault) → Err fault ≡ ok_or f Malformed → outline_of (Err fault) ≡ outline s
+      outline_no_questions fault e = by f ended e
+        where
+          by : (g : code.Option ℕ) → end_of g ≡ questions_end q s 12 → Err fault ≡ ok_or g Malformed → outline_of (Err fault) ≡ outline s
+          by None is h = let same : fault ≡ Malformed = cc in rw same (no_questions is)
+          by (Some at) is h = cc
+
+      pub outline_scanned : (at : ℕ) → Ok at ≡ ok_or f Malformed → (an ns ar : ℕ) → an ≡ ancount s → ns ≡ nscount s → ar ≡ arcount s
+          → (o : Outline) → o ≡ scanned (an + ns + ar - ar) None false (an + ns + ar) s at → outline_of o ≡ outline s
+      outline_scanned at e = scanned_from at (by f ended e)
+        where
+          by : (g : code.Option ℕ) → end_of g ≡ questions_end q s 12 → Ok at ≡ ok_or g Malformed → some at ≡ questions_end q s 12
+          by None is h = cc
+          by (Some k) is h = let same : at ≡ k = cc in rw same is

@@ -12,9 +12,6 @@ use lib.ListN.{length, get_or, get_or-eq_default}
 use mir.Syntax.{w64}
 use mir.Val.{Fits}
 use Rattle.octets.proofs.EachLaws.{IfOne}
-use Rattle.message.specs.Answers.{end_of}
-use Rattle.message.specs.declared.End.{End}
-use Rattle.message.specs.declared.End.TheVariants.{At}
 use Rattle.message.specs.Name.{within, is_label, past_labels, labels_end, terminator, name_end}
 
 -- ---- labels
@@ -71,14 +68,6 @@ module _ (s : List ℕ) (t : ℕ) where
   unfolding terminator
   ends_zero inside z = simp (z, le-leb (t + 1) (length s) (omega arith))
 
-  pub ends_reserved : (get_or s t 0 ≡ 0 → ⊥) → get_or s t 0 < 192 → none ≡ terminator s t
-  unfolding terminator
-  ends_reserved n b = simp (ne_eqb _ _ n, lt-leb _ _ b)
-
-  pub ends_cut : (get_or s t 0 ≡ 0 → ⊥) → 192 ≤ get_or s t 0 → length s < t + 2 → none ≡ terminator s t
-  unfolding terminator
-  ends_cut n b cut = simp (ne_eqb _ _ n, le-leb _ _ b, lt-leb _ _ cut)
-
   pub ends_pointer : (get_or s t 0 ≡ 0 → ⊥) → 192 ≤ get_or s t 0 → t + 2 ≤ length s → some (t + 2) ≡ terminator s t
   unfolding terminator
   ends_pointer n b inside = simp (ne_eqb _ _ n, le-leb _ _ b, le-leb _ _ inside)
@@ -131,17 +120,17 @@ terminator_inside s t = pick (eqb (get_or s t 0) 0) (leb 192 (get_or s t 0))
     pick false true = end_inside s (t + 2)
     pick false false = tt
 
-module _ (s : List ℕ) (at : ℕ) (n : End) (named : end_of n ≡ name_end s at) (e : ℕ) (k : n ≡ At e) where
+module _ (s : List ℕ) (at e : ℕ) (named : some e ≡ name_end s at) where
   pub name_inside : at < length s
   name_inside =
       elim (dec_lt at (length s)) [
         | yes l ↦ l
-        | no m ↦ let past : none ≡ some e = name_past s at (omega arith) ∙ sym named ∙ ap end_of k in absurd (none-ne-some e past)
+        | no m ↦ let past : none ≡ some e = name_past s at (omega arith) ∙ sym named in absurd (none-ne-some e past)
       ]
 
   pub name_within : e ≤ length s
   unfolding name_end
-  name_within = subst (EndInside s) (sym named ∙ ap end_of k) (terminator_inside s (labels_end s at))
+  name_within = subst (EndInside s) (sym named) (terminator_inside s (labels_end s at))
 
   -- so that a place some bytes behind it does not wrap: a slice has less than 2 ^ 63
   pub name_fits : length s * 1 < 2 ^ 63 → (more : ℕ) → more < 2 ^ 63 → Fits w64 (e + more)

@@ -1,6 +1,6 @@
 -- What a message's records say lies within the message. Assumes nothing.
 use Prim.Native.Nat.{ℕ, zero, suc, ◌+◌}
-use mathlib.Core.Path.{◌≡◌, sym, ap, subst, ◌∙◌}
+use mathlib.Core.Path.{◌≡◌, sym, subst}
 use mathlib.Core.Bool.{Bool, true, false, cond}
 use mathlib.Core.List.{List, [], ◌∷◌}
 use mathlib.Core.Option.{Option, none, some, bind}
@@ -12,12 +12,9 @@ use lib.ListN.{length}
 use Rattle.octets.specs.Numbers.{be16_at}
 use Rattle.octets.specs.Refusals.{◌when◌, first, answered}
 use Rattle.octets.proofs.EachLaws.{Inside, Each, IfOne, IfList, each_bind, each_listed}
-use Rattle.message.specs.Answers.{outline_of}
 use Rattle.message.specs.Message.{qdcount, ancount, nscount, arcount, questions_end, records, sections, records_of, malformed, wrong_opt, is_opt, opts, Outlined, refused, no_opt, the_opt, first_opt, outline}
 use Rattle.message.specs.Name.{name_end}
 use Rattle.message.specs.Record.{fields, whole, record_at}
-use Rattle.message.specs.declared.Outline.{Outline}
-use Rattle.message.specs.declared.Outline.TheVariants.{Opt}
 use Rattle.message.specs.declared.Record.{Record}
 
 -- a record's data lies in so many bytes
@@ -78,5 +75,5 @@ outline_inside s = unless (first (6 when malformed s ∷ 7 when wrong_opt s ∷ 
     unless (suc k) rs is = tt
 
 -- the OPT that a walk found
-pub opt_inside : (s : List ℕ) (o : Outline) → outline_of o ≡ outline s → (r : Record) → o ≡ Opt r → DataInside (length s) r
-opt_inside s o walked r k = subst (OutlineInside (length s)) (sym walked ∙ ap outline_of k) (outline_inside s)
+pub opt_inside : (s : List ℕ) (r : Record) → the_opt r ≡ outline s → DataInside (length s) r
+opt_inside s r walked = subst (OutlineInside (length s)) (sym walked) (outline_inside s)

@@ -1,28 +1,25 @@
 -- What the code's answers say, in the terms of the definitions. The cases `NamesHold` pin each. Assumes nothing.
-use Rattle.std.specs.Prelude.{ℕ}
-use Rattle.std.proofs.Math.Option.{Option, none, some}
+use Rattle.std.specs.Prelude.{ℕ, Option, Some, None, Result, Ok, Err}
+use Rattle.std.proofs.Math.Option.{none, some}
+use Rattle.std.proofs.Math.Option as math
 use Rattle.message.specs.Message.{Outlined, refused, no_opt, the_opt}
-use Rattle.message.specs.declared.End.{End}
-use Rattle.message.specs.declared.End.TheVariants as end-as
-use Rattle.message.specs.declared.Found.{Found}
-use Rattle.message.specs.declared.Found.TheVariants as found_as
-use Rattle.message.specs.declared.Outline.{Outline}
-use Rattle.message.specs.declared.Outline.TheVariants as outline-as
+use Rattle.message.specs.declared.Fault.{Fault}
+use Rattle.message.specs.declared.Fault.TheVariants.{Malformed, WrongOpt}
 use Rattle.message.specs.declared.Record.{Record}
 
 -- where a part ends
-abbrev pub end_of : End → Option ℕ
-end_of (end-as.At end) = some end
-end_of end-as.Malformed = none
+abbrev pub end_of : Option ℕ → math.Option ℕ
+end_of (Some end) = some end
+end_of None = none
 
 -- the record that starts at a place
-abbrev pub found_of : Found → Option Record
-found_of (found_as.Whole r) = some r
-found_of found_as.Cut = none
+abbrev pub found_of : Option Record → math.Option Record
+found_of (Some r) = some r
+found_of None = none
 
 -- with document 01's numbers
-abbrev pub outline_of : Outline → Outlined
-outline_of outline-as.Malformed = refused 6
-outline_of outline-as.WrongOpt = refused 7
-outline_of outline-as.NoOpt = no_opt
-outline_of (outline-as.Opt r) = the_opt r
+abbrev pub outline_of : Result (Option Record) Fault → Outlined
+outline_of (Err Malformed) = refused 6
+outline_of (Err WrongOpt) = refused 7
+outline_of (Ok None) = no_opt
+outline_of (Ok (Some r)) = the_opt r

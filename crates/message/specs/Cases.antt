@@ -1,26 +1,24 @@
 -- Cases that pin the definitions of Name.antt, Record.antt, Message.antt and Answers.antt, with bytes written out. Assumes nothing.
-use Rattle.std.specs.Prelude.{◌≡◌, true, false, List, [], ◌∷◌, ◌++◌, map, ℕ, zero, suc, replicate}
+use Rattle.std.specs.Prelude.{◌≡◌, true, false, List, [], ◌∷◌, ◌++◌, map, ℕ, zero, suc, replicate, Some, None, Ok, Err}
 use Rattle.std.proofs.Math.Option.{none, some}
 use Rattle.octets.specs.Numbers.{up_to}
 use Rattle.message.specs.Answers.{end_of, found_of, outline_of}
 use Rattle.message.specs.Message.{qdcount, ancount, nscount, arcount, Outlined, refused, no_opt, the_opt, outline}
 use Rattle.message.specs.Name.{name_end}
 use Rattle.message.specs.Record.{question_end, record_at}
-use Rattle.message.specs.declared.End.TheVariants as end-as
-use Rattle.message.specs.declared.Found.TheVariants as found_as
-use Rattle.message.specs.declared.Outline.TheVariants as outline-as
+use Rattle.message.specs.declared.Fault.TheVariants.{Malformed, WrongOpt}
 use Rattle.message.specs.declared.Record.{Record}
 
--- what the enums say, case by case
+-- what the answers say, case by case
 pub record NamesHold : Type 0 where
-  pub ends : (e : ℕ) → end_of (end-as.At e) ≡ some e
-  pub ends_not : end_of end-as.Malformed ≡ none
-  pub whole : (r : Record) → found_of (found_as.Whole r) ≡ some r
-  pub cut : found_of found_as.Cut ≡ none
-  pub malformed_is_6 : outline_of outline-as.Malformed ≡ refused 6
-  pub wrong_is_7 : outline_of outline-as.WrongOpt ≡ refused 7
-  pub without : outline_of outline-as.NoOpt ≡ no_opt
-  pub with_one : (r : Record) → outline_of (outline-as.Opt r) ≡ the_opt r
+  pub ends : (e : ℕ) → end_of (Some e) ≡ some e
+  pub ends_not : end_of None ≡ none
+  pub whole : (r : Record) → found_of (Some r) ≡ some r
+  pub cut : found_of None ≡ none
+  pub malformed_is_6 : outline_of (Err Malformed) ≡ refused 6
+  pub wrong_is_7 : outline_of (Err WrongOpt) ≡ refused 7
+  pub without : outline_of (Ok None) ≡ no_opt
+  pub with_one : (r : Record) → outline_of (Ok (Some r)) ≡ the_opt r
 
 -- n zeros
 abbrev pub zeros : ℕ → List ℕ

@@ -10,15 +10,8 @@ pub use names::name_end;
 pub use records::{question_end, record_at};
 pub use sections::walk;
 
-// Where a part of the message ends.
-#[derive(Clone, Copy)]
-pub enum End {
-    At(usize),
-    Malformed,
-}
-
 // What a record says.
-#[derive(Clone, Copy)]
+#[derive(Clone, Copy, Debug, PartialEq, Eq)]
 pub struct Record {
     // Its owner is the root: the single byte 0.
     pub root: bool,
@@ -31,20 +24,11 @@ pub struct Record {
     pub end: usize,
 }
 
-// The record at a place, or that none is whole there.
-#[derive(Clone, Copy)]
-pub enum Found {
-    Whole(Record),
-    Cut,
-}
-
-// What a whole message is made of.
-#[derive(Clone, Copy)]
-pub enum Outline {
+// What is wrong with a message.
+#[derive(Clone, Copy, Debug, PartialEq, Eq)]
+pub enum Fault {
     // Not of its questions and records alone: refusal 6.
     Malformed,
     // An OPT outside the additional section, one whose owner is not the root, or a second one: refusal 7.
     WrongOpt,
-    NoOpt,
-    Opt(Record),
 }

@@ -3,50 +3,43 @@ ghost use Rattle.std.specs.Prelude.{◌≡◌};
 ghost use Rattle.message.specs.Name.{terminator, name_end};
 ghost use Rattle.message.specs.Answers.{end_of};
 
-use crate::End;
-
 // Where a name ends that has no label here: behind a zero byte, or behind a pointer's two bytes.
-fn terminator_end(message: &[u8], at: usize) -> End
+#[tactic(auto, unfolding(crate::specs::Name::terminator))]
+fn terminator_end(message: &[u8], at: usize) -> Option<usize>
     ensures { end_of result ≡ terminator message.now at }
 {
-    if message.len() <= at {
-        return End::Malformed;
-    }
-    let b = message[at];
+    let b = *message.get(at)?;
     if b == 0 {
-        return End::At(at + 1);
+        return Some(at + 1);
     }
     if b < 192 {
-        return End::Malformed;
+        return None;
     }
     let end = at + 2;
     if message.len() < end {
-        return End::Malformed;
+        return None;
     }
-    End::At(end)
+    Some(end)
 }
 
-// Where the name that starts at a place ends. The root, which most records of a request have for their owner, is seen before the loop.
-pub fn name_end(message: &[u8], at: usize) -> End
+// Where the name that starts at a place ends. The root, which most records of a request have for their owner, is seen
+// before the loop. A label says where the next one is, so that no `for` fits.
+pub fn name_end(message: &[u8], at: usize) -> Option<usize>
     ensures { end_of result ≡ name_end message.now at }
 {
-    if message.len() <= at {
-        return End::Malformed;
-    }
-    if message[at] == 0 {
-        return End::At(at + 1);
+    if *message.get(at)? == 0 {
+        return Some(at + 1);
     }
     let mut i = at;
-    while i < message.len() {
-        let n = message[i];
+    while let Some(&n) = message.get(i) {
         let next = i + 1;
         if n == 0 {
-            return End::At(next);
+            return Some(next);
         }
         if 63 < n {
             return terminator_end(message, i);
         }
         i = next + n as usize;
     }
-    End::Malformed
+    None
 }

@@ -1,11 +1,11 @@
 -- The claim `CasesHold` of specs/Cases.antt, by computing the definitions. Assumes nothing.
 use mathlib.Core.Path.{refl}
 use Rattle.octets.specs.Numbers.{le_number, le_bytes, be_number, be_bytes, printed}
-use Rattle.octets.specs.Runs.{same_run, fits, written}
+use Rattle.octets.specs.Runs.{bytes_at, part_end, same_run, fits, written}
 use Rattle.octets.specs.Cases.{CasesHold}
 
 pub cases_hold : CasesHold
-unfolding le_number le_bytes be_number be_bytes printed same_run fits written
+unfolding le_number le_bytes be_number be_bytes printed bytes_at part_end same_run fits written
 cases_hold =
     record {
       be_number_case = refl;
@@ -18,6 +18,13 @@ cases_hold =
       be16_past = refl;
       be32_at_case = refl;
       be64_at_case = refl;
+      bytes_inside = refl;
+      bytes_past = refl;
+      part_to_end = refl;
+      part_empty = refl;
+      part_long = refl;
+      part_long_past = refl;
+      length_past = refl;
       same_bytes = refl;
       last_differs = refl;
       shorter = refl;

@@ -2,7 +2,8 @@
 use mathlib.Core.Path.{◌≡◌, refl, sym, ap, ap₂, ◌∙◌}
 use mathlib.Core.List.{List, [], ◌∷◌}
 use Prim.Native.Nat.{ℕ, zero, suc, ◌+◌, ◌*◌, ◌/◌, ◌%◌, ◌^◌, ◌<◌}
-use native.Mathlib.Nat.{mod-one, mod-eq_of_lt, pow-suc, pow-succ', one-le-pow}
+use Rattle.std.specs.Int.{byte_at, bytes_low_first, bytes_high_first}
+use native.Mathlib.Nat.{mod-one, mod-eq_of_lt, pow-suc, pow-succ', one-le-pow, div-one, div-div-eq-div-mul}
 use native.Mathlib.Omega.{arith}
 use lib.Arith.{mod-mul}
 use lib.ListN.{length, get_or}
@@ -54,29 +55,30 @@ le_again (b ∷ bs) bytes =
     let high : (b + 256 * le_number bs) / 256 ≡ le_number bs = omega arith in
     rw (low, high) (ap (λ (rest : List ℕ). b ∷ rest) (le_again bs (λ i. bytes (suc i))))
 
--- ---- eight bytes, the highest first, out of a word that has the lowest first
+-- ---- the library's words for the same
 
--- four and four
-pub turned_is : (word high low : ℕ) (b : List ℕ) → b ≡ le_bytes 8 word
-    → high ≡ be_number (get_or b 0 0 ∷ get_or b 1 0 ∷ get_or b 2 0 ∷ get_or b 3 0 ∷ []) → low ≡ be_number (get_or b 4 0 ∷ get_or b 5 0 ∷ get_or b 6 0 ∷ get_or b 7 0 ∷ [])
-    → high * 4294967296 + low ≡ be_number (le_bytes 8 word)
-unfolding be_number le_bytes
-turned_is word high low b e h l = rw (h, l, e) (omega arith)
+-- from its i-th byte on a number's bytes are those of what is above the i bytes before
+low_first : (k i n : ℕ) → bytes_low_first i k n ≡ le_bytes k (n / 256 ^ i)
+unfolding le_bytes
+low_first zero i n = refl
+low_first (suc k) i n =
+    ap₂ (λ (b : ℕ) (bs : List ℕ). b ∷ bs) (here i) (low_first k (suc i) n ∙ ap (le_bytes k) (sym (div-div-eq-div-mul n (256 ^ i) 256 ∙ ap (λ (p : ℕ). n / p) (sym (pow-suc 256 i)))))
+  where
+    here : (i : ℕ) → byte_at i n ≡ n / 256 ^ i % 256
+    here zero = sym (ap (λ (q : ℕ). q % 256) (div-one n))
+    here (suc i) = refl
 
-module _ (b0 b1 b2 b3 b4 b5 b6 b7 : ℕ) (f0 : b0 < 256) (f1 : b1 < 256) (f2 : b2 < 256) (f3 : b3 < 256) (f4 : b4 < 256) (f5 : b5 < 256) (f6 : b6 < 256) (f7 : b7 < 256) where
-  abbrev bytes : List ℕ
-  bytes = b0 ∷ b1 ∷ b2 ∷ b3 ∷ b4 ∷ b5 ∷ b6 ∷ b7 ∷ []
+pub le_written : (k n : ℕ) (bytes : List ℕ) → bytes ≡ bytes_low_first 0 k n → bytes ≡ le_bytes k n
+le_written k n bytes is = is ∙ low_first k 0 n ∙ ap (le_bytes k) (div-one n)
 
-  small : (i : ℕ) → get_or bytes i 0 < 256
-  small zero = f0
-  small (suc zero) = f1
-  small (suc (suc zero)) = f2
-  small (suc (suc (suc zero))) = f3
-  small (suc (suc (suc (suc zero)))) = f4
-  small (suc (suc (suc (suc (suc zero))))) = f5
-  small (suc (suc (suc (suc (suc (suc zero)))))) = f6
-  small (suc (suc (suc (suc (suc (suc (suc zero))))))) = f7
-  small (suc (suc (suc (suc (suc (suc (suc (suc i)))))))) = omega arith
+high_first : (k n : ℕ) → bytes_high_first k n ≡ be_bytes k n
+unfolding be_bytes
+high_first zero n = refl
+high_first (suc k) n = ap₂ (λ (b : ℕ) (bs : List ℕ). b ∷ bs) (here k) (high_first k n)
+  where
+    here : (i : ℕ) → byte_at i n ≡ n / 256 ^ i % 256
+    here zero = sym (ap (λ (q : ℕ). q % 256) (div-one n))
+    here (suc i) = refl
 
-  pub be64_is : (word r : ℕ) → word ≡ le_number bytes → r ≡ be_number (le_bytes 8 word) → r ≡ be_number bytes
-  be64_is word r w e = e ∙ ap (λ (x : ℕ). be_number (le_bytes 8 x)) w ∙ ap be_number (le_again bytes small)
+pub be_written : (k n : ℕ) (bytes : List ℕ) → bytes ≡ bytes_high_first k n → bytes ≡ be_bytes k n
+be_written k n bytes is = is ∙ high_first k n

@@ -4,12 +4,12 @@ use mathlib.Core.Bool.{Bool, true, false, ◌&&◌}
 use mathlib.Core.List.{List, [], ◌∷◌, ◌++◌, append_assoc}
 use Prim.Native.Nat.{ℕ, ◌+◌, ◌≤◌, ◌<◌}
 use native.Mathlib.Decide.{dec_lt}
-use native.Mathlib.Numerals.{add-one}
 use native.Mathlib.Omega.{arith}
-use borrow.Author.Tests.{eqb-true, eq-eqb, ne_eqb, leb-true, le-leb, lt-leb}
+use borrow.Author.Tests.{eqb-true, eq-eqb, leb-true, le-leb, lt-leb}
 use lib.Dec.{eqb, leb}
-use lib.ListN.{length, take, drop, get_or, length-append, drop_of_length-le}
-use lib.Seq.{drop-cons, drop-drop, drop_at, take_at, take-length, take_all, length-take-le, paste, length-paste, take-paste, drop-paste}
+use lib.ListN.{length, take, drop, length-append}
+use lib.Pointwise.{pointwise}
+use lib.Seq.{drop-drop, drop_at, take_at, take-length, take_all, length-take-le, paste, length-paste, take-paste, drop-paste}
 use Rattle.octets.specs.Runs.{same_run, fits, written}
 
 -- ---- equality
@@ -119,28 +119,19 @@ pub written_all : (buffer run : List ℕ) → length buffer ≡ length run → w
 written_all buffer run e =
     sym (take_all (length run) (written buffer 0 run) (omega (arith, length_written buffer 0 run))) ∙ written_back buffer 0 run (omega arith)
 
--- ---- the loop of `same`
+-- ---- the library's words for the same
+
+-- what `==` says of two runs
+equal : (xs ys : List ℕ) → pointwise eqb xs ys ≡ same_run xs ys
+unfolding same_run
+equal [] [] = refl
+equal [] (y ∷ ys) = refl
+equal (x ∷ xs) [] = refl
+equal (x ∷ xs) (y ∷ ys) = ap (λ (rest : Bool). eqb x y && rest) (equal xs ys)
+
+pub equal_is : (xs ys : List ℕ) (answer : Bool) → answer ≡ pointwise eqb xs ys → answer ≡ same_run xs ys
+equal_is xs ys answer is = is ∙ equal xs ys
 
 -- runs of other lengths differ
 pub same_lengths : (xs ys : List ℕ) → (length xs ≡ length ys → ⊥) → false ≡ same_run xs ys
 same_lengths xs ys other = sym (same_other xs ys (λ e. other (ap length e)))
-
--- two runs of one length, compared up to i: the rest from there says what the whole says
-module _ (xs ys : List ℕ) (long : length xs ≡ length ys) (i : ℕ) (inv : same_run xs ys ≡ same_run (drop i xs) (drop i ys)) where
-  from : i < length xs → same_run xs ys ≡ (eqb (get_or xs i 0) (get_or ys i 0) && same_run (drop (i + 1) xs) (drop (i + 1) ys))
-  unfolding same_run
-  from here =
-      let there : i < length ys = omega arith in
-      inv ∙ rw (drop-cons xs i 0 here, drop-cons ys i 0 there, add-one) refl
-
-  pub same_stop : i < length xs → (get_or xs i 0 ≡ get_or ys i 0 → ⊥) → false ≡ same_run xs ys
-  same_stop here other = sym (from here ∙ rw (ne_eqb (get_or xs i 0) (get_or ys i 0) other))
-
-  pub same_on : i < length xs → get_or xs i 0 ≡ get_or ys i 0 → same_run xs ys ≡ same_run (drop (i + 1) xs) (drop (i + 1) ys)
-  same_on here equal = from here ∙ rw (eq-eqb (get_or xs i 0) (get_or ys i 0) equal)
-
-  pub same_end : length xs ≤ i → true ≡ same_run xs ys
-  unfolding same_run
-  same_end past =
-      let past' : length ys ≤ i = omega arith in
-      sym (inv ∙ rw (drop_of_length-le xs past, drop_of_length-le ys past'))

@@ -1,11 +1,11 @@
 -- Cases that pin the definitions of Numbers.antt, Runs.antt and Refusals.antt, bytes and numbers written out (`FirstIs` and `NoneApplies` are tied to `first`
 -- by laws, both ways). The number is the timestamp of RFC 9018's first vector
 -- (P1 of document 01), the word that of the key in the SipHash paper, appendix A. Assumes nothing.
-use Rattle.std.specs.Prelude.{◌≡◌, true, false, List, [], ◌∷◌, ℕ, suc}
+use Rattle.std.specs.Prelude.{◌≡◌, true, false, List, [], ◌∷◌, ℕ, suc, replicate, Some, None}
 use Rattle.std.proofs.Math.Option.{none, some}
 use Rattle.octets.specs.Numbers.{le_number, le_bytes, be_number, be_bytes, printed, be16_at, be32_at, be64_at}
 use Rattle.octets.specs.Refusals.{Row, ◌when◌, first, answered, is_none}
-use Rattle.octets.specs.Runs.{same_run, fits, written}
+use Rattle.octets.specs.Runs.{bytes_at, part_end, same_run, fits, written}
 
 -- the claim: each definition gives what is written beside it
 pub record CasesHold : Type 0 where
@@ -19,6 +19,13 @@ pub record CasesHold : Type 0 where
   pub be16_past : be16_at (1 ∷ 2 ∷ 3 ∷ []) 2 ≡ 0x0300
   pub be32_at_case : be32_at (9 ∷ 1 ∷ 2 ∷ 3 ∷ 4 ∷ 9 ∷ []) 1 ≡ 0x01020304
   pub be64_at_case : be64_at (9 ∷ 1 ∷ 2 ∷ 3 ∷ 4 ∷ 5 ∷ 6 ∷ 7 ∷ 8 ∷ 9 ∷ []) 1 ≡ 0x0102030405060708
+  pub bytes_inside : bytes_at 2 (1 ∷ 2 ∷ 3 ∷ 4 ∷ []) 1 ≡ 2 ∷ 3 ∷ []
+  pub bytes_past : bytes_at 3 (1 ∷ 2 ∷ 3 ∷ 4 ∷ []) 3 ≡ 4 ∷ 0 ∷ 0 ∷ []
+  pub part_to_end : part_end (9 ∷ 0 ∷ 2 ∷ 7 ∷ 8 ∷ []) 1 ≡ Some 5
+  pub part_empty : part_end (9 ∷ 0 ∷ 0 ∷ []) 1 ≡ Some 3
+  pub part_long : part_end (1 ∷ 2 ∷ replicate 258 7) 0 ≡ Some 260
+  pub part_long_past : part_end (1 ∷ 2 ∷ replicate 257 7) 0 ≡ None
+  pub length_past : part_end (0 ∷ 0 ∷ 0 ∷ []) 2 ≡ None
   pub same_bytes : same_run (1 ∷ 2 ∷ []) (1 ∷ 2 ∷ []) ≡ true
   pub last_differs : same_run (1 ∷ 2 ∷ []) (1 ∷ 3 ∷ []) ≡ false
   pub shorter : same_run (1 ∷ []) (1 ∷ 2 ∷ []) ≡ false

@@ -1,6 +1,18 @@
--- Runs of bytes: whether two are equal, and one written at a place of a buffer. No paper: these are this project's own words for what the rules
+-- Runs of bytes: a part read, whether two are equal, and one written at a place of a buffer. No paper: these are this project's own words for what the rules
 -- of document 01 compare and write. Assumes nothing.
-use Rattle.std.specs.Prelude.{ℕ, ◌+◌, ◌≡◌, Bool, true, false, cond, ◌&&◌, List, [], ◌∷◌, ◌++◌, eqb, leb, length, take, drop}
+use Rattle.std.specs.Prelude.{ℕ, zero, suc, ◌+◌, ◌≡◌, Bool, true, false, cond, ◌&&◌, List, [], ◌∷◌, ◌++◌, eqb, leb, length, take, drop, get_or, Option, Some, None}
+use Rattle.octets.specs.Numbers.{be16_at}
+
+-- so many bytes from a place on. A byte past the end counts as 0
+unfoldable pub bytes_at : ℕ → List ℕ → ℕ → List ℕ
+bytes_at zero s at = []
+bytes_at (suc n) s at = get_or s at 0 ∷ bytes_at n s (suc at)
+
+-- where the part ends that stands behind the two bytes of its length, from a place on, if the run has all of it
+unfoldable pub part_end : List ℕ → ℕ → Option ℕ
+part_end s at =
+    let end = at + 2 + be16_at s at in
+    cond (leb end (length s)) (Some end) None
 
 -- whether two runs have the same bytes, and as many
 unfoldable pub same_run : List ℕ → List ℕ → Bool

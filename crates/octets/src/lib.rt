@@ -4,5 +4,5 @@
 mod numbers;
 mod runs;
 
-pub use numbers::{be16, be32, be32_bytes, be64, le32, le32_bytes, le64, le64_bytes};
-pub use runs::{octet, put, same};
+pub use numbers::{be16, be32, be32_bytes, be64, le32, le32_bytes, le64, le64_bytes, word_at};
+pub use runs::{bytes_at, octet, part_end, put, same};

@@ -1,45 +1,63 @@
 // Runs of bytes: one byte of a run, two runs compared, a run written at a place of a lent buffer.
+#![tactic(auto, using(crate::proofs::RunLaws::equal_is))]
+
 ghost use Rattle.std.specs.Prelude.{◌≡◌, get_or};
-ghost use Rattle.octets.specs.Runs.{same_run, fits, written};
+ghost use Rattle.octets.specs.Runs.{bytes_at, part_end, same_run, fits, written};
 
 // The byte at a place, and 0 past the end.
 pub fn octet(s: &[u8], at: usize) -> u8
     ensures { result ≡ get_or s.now at 0 }
 {
-    if at < s.len() { s[at] } else { 0 }
+    s.get(at).copied().unwrap_or(0)
 }
 
-// Whether two runs have the same bytes, and as many. It stops at the first difference.
+// So many bytes from a place on, and 0 for each that is past the end. Where the caller's tests show that all are there, LLVM makes one
+// load of it.
+pub fn bytes_at<const N: usize>(s: &[u8], at: usize) -> [u8; N]
+    ensures { result ≡ bytes_at N s.now at }
+{
+    let Some(rest) = s.get(at..) else {
+        return [0; N];
+    };
+    if let Some(bytes) = rest.first_chunk() {
+        return *bytes;
+    }
+    let mut bytes = [0; N];
+    for (i, byte) in bytes.iter_mut().enumerate() {
+        *byte = octet(rest, i);
+    }
+    bytes
+}
+
+// Where the part ends that stands behind the two bytes of its length, from a place on; nothing if it is past the end. The two bytes are
+// added one by one: a walk waits for the next place, and a load of both with a swap takes longer.
+#[tactic(auto, unfolding(crate::specs::Runs::part_end))]
+pub fn part_end(s: &[u8], at: usize) -> Option<usize>
+    ensures { result ≡ part_end s.now at }
+{
+    let [high, low] = s.get(at..)?.first_chunk::<2>()?;
+    let end = at + 2 + *low as usize + *high as usize * 256;
+    if s.len() < end {
+        return None;
+    }
+    Some(end)
+}
+
+// Whether two runs have the same bytes, and as many: `==` of the library, promised in this crate's words.
 pub fn same(a: &[u8], b: &[u8]) -> bool
     ensures { result ≡ same_run a.now b.now }
 {
-    if a.len() != b.len() {
-        return false;
-    }
-    let mut i = 0;
-    while i < a.len() {
-        if a[i] != b[i] {
-            return false;
-        }
-        i += 1;
-    }
-    true
+    a == b
 }
 
-// Writes a run into a buffer from a place on, and tells whether it fits. If it does not, nothing is written.
+// Writes a run into a buffer from a place on, and tells whether it fits. If it does not, nothing is written. A bool and no Result, since
+// the promise is one equation of it and of the buffer.
 pub fn put(buffer: &mut [u8], at: usize, run: &[u8]) -> bool
     ensures { (result ≡ fits buffer.old at run.now) × (buffer.new ≡ written buffer.old at run.now) }
 {
-    if buffer.len() < at {
+    if buffer.len() < at || buffer.len() - at < run.len() {
         return false;
     }
-    if buffer.len() - at < run.len() {
-        return false;
-    }
-    let mut i = 0;
-    while i < run.len() {
-        buffer[at + i] = run[i];
-        i += 1;
-    }
+    buffer[at..at + run.len()].copy_from_slice(run);
     true
 }

@@ -12,73 +12,38 @@
 // 131,072 or more, by `long line` and its number, and nothing after it is read.
 #![tactic(auto)]
 
-use edns::Cookie;
-use lines::{hex, output, reader, text};
+use lines::{hex, output, reader};
 use request::Reading;
 use std::io;
-use std::io::{Read, Write};
-
-fn wide(count: u16) -> u64 {
-    count as u64
-}
-
-fn say_cookie(out: &mut impl Write, qdcount: u16, cookie: Cookie) -> io::Result<()> {
-    output::say_field(out, b" cookie ", wide(qdcount))?;
-    output::say_field(out, b" ", cookie.start as u64)?;
-    output::say_field(out, b" ", cookie.end as u64)
-}
+use std::io::Write;
 
 fn say_reading(out: &mut impl Write, reading: Reading) -> io::Result<()> {
-    match reading {
-        Reading::Refused(refusal) => output::say_refused(out, request::refusal_number(refusal)),
-        Reading::NoCookie { qdcount } => output::say_field(out, b" none ", wide(qdcount)),
-        Reading::CookieAt { qdcount, cookie } => say_cookie(out, qdcount, cookie),
+    let qdcount = reading.qdcount;
+    match reading.cookie {
+        None => write!(out, " none {qdcount}"),
+        Some(cookie) => write!(out, " cookie {qdcount} {} {}", cookie.start, cookie.end),
     }
 }
 
 fn answer(out: &mut impl Write, line: &[u8], message: &[u8]) -> io::Result<()> {
     output::say_message(out, line, message.len())?;
-    say_reading(out, request::read(message))?;
+    match request::read(message) {
+        Ok(reading) => say_reading(out, reading),
+        Err(refusal) => write!(out, " refused {}", u8::from(refusal)),
+    }?;
     output::say_last(out, request::cookie_body(message))
 }
 
-// Answers one line.
-fn run_line(out: &mut impl Write, line: &[u8], number: u64, bytes: &mut [u8]) -> io::Result<()> {
-    if text::is_comment(line) {
-        return output::say_line(out, line);
-    }
-    let message = hex::decode(line, bytes);
-    if !message.ok {
-        return output::bad_line(out, number);
-    }
-    let n = message.count;
-    answer(out, line, &bytes[0..n])
-}
-
-// A proved loop has to end, and nothing says that the input does: it counts down from a number that no run uses up.
-fn run(
-    input: &mut impl Read,
-    out: &mut impl Write,
-    buffer: &mut [u8],
-    bytes: &mut [u8],
-) -> io::Result<()> {
-    let mut cursor = reader::start();
-    let mut turns = u64::MAX;
-    while 0 < turns {
-        cursor = reader::next(input, out, buffer, cursor)?;
-        if !cursor.is_line {
-            return Ok(());
-        }
-        let start = cursor.start;
-        let end = cursor.end;
-        run_line(out, &buffer[start..end], cursor.number, bytes)?;
-        turns -= 1;
-    }
-    Ok(())
-}
-
 fn main(rt: HostRuntime) -> io::Result<()> {
-    let mut buffer = [0u8; 262144];
-    let mut bytes = [0u8; 131072];
-    run(&mut rt.stdin(), &mut rt.stdout(), &mut buffer, &mut bytes)
+    let mut buffer = [0; 262144];
+    let mut bytes = [0; 131072];
+    reader::each(
+        &mut rt.stdin(),
+        &mut rt.stdout(),
+        &mut buffer,
+        |out, line| {
+            let message = hex::decode(line, &mut bytes)?;
+            Some(answer(out, line, message))
+        },
+    )
 }

@@ -1,6 +1,6 @@
 -- The COOKIE body that is found lies within the message and has a legal length. Assumes nothing.
 use Prim.Native.Nat.{ℕ, zero, suc, ◌+◌, ◌-◌, ◌≤◌}
-use mathlib.Core.Path.{◌≡◌, refl, sym, ap, subst, ◌∙◌}
+use mathlib.Core.Path.{◌≡◌, refl, sym, ap, subst}
 use mathlib.Core.Bool.{true, false}
 use mathlib.Core.List.{List, [], ◌∷◌}
 use mathlib.Core.Option.{Option, none, some}
@@ -14,17 +14,12 @@ use Rattle.octets.proofs.RefusalLaws.{or_r, first_most, this_not, none_behind, z
 use Rattle.octets.proofs.EachLaws.{Each, IfOne}
 use Rattle.edns.proofs.Within.{BodyInside, cookie_within}
 use Rattle.edns.specs.Options.{options_from, options_in, options_of, first_cookie, is_cookie_length}
-use Rattle.edns.specs.declared.Cookie.{Cookie}
 use Rattle.edns.specs.declared.EdnsOption.{EdnsOption}
 use Rattle.message.proofs.Within.{DataInside, opts_within}
 use Rattle.message.specs.declared.Record.{Record}
 use Rattle.message.specs.Message.{qdcount}
 use Rattle.request.proofs.RestLaws.{numbered}
-use Rattle.request.specs.Answers.{answer_of}
 use Rattle.request.specs.Request.{opts_in, cookie_of, data_of, opt_data, is_illegal, Answer, refused, no_cookie, cookie, start_of, found, found_in, checks, request, body_at, cookie_body}
-use Rattle.request.specs.declared.Reading.{Reading}
-use Rattle.request.specs.declared.Reading.TheVariants as reading-as
-use Rattle.request.specs.declared.Refusal.{Refusal}
 
 abbrev pub AnswerInside : ℕ → Answer → Type 0
 AnswerInside n (refused k) = Unit {0}
@@ -118,30 +113,21 @@ request_small s = pick (first (checks s)) refl (request_inside s)
 
 -- ---- the finder
 
-module _ (s : List ℕ) (x : Reading) (read : answer_of x ≡ request s) where
-  body_is : (y : Reading) → x ≡ y → body_at s (answer_of y) ≡ cookie_body s
+module _ (s : List ℕ) where
+  pub body_is : (a : Answer) → a ≡ request s → body_at s a ≡ cookie_body s
   unfolding cookie_body
-  body_is y k = ap (body_at s) (sym (ap answer_of k) ∙ read)
+  body_is a read = ap (body_at s) read
 
-  pub body_refused : (f : Refusal) → x ≡ reading-as.Refused f → [] ≡ cookie_body s
-  body_refused f k = body_is (reading-as.Refused f) k
+  module _ (q start end : ℕ) (read : cookie q start end ≡ request s) where
+    inside : (start ≤ end) × (end ≤ length s)
+    inside = subst (AnswerInside (length s)) (sym read) (request_inside s)
 
-  pub body_none : (q : ℕ) → x ≡ reading-as.NoCookie q → [] ≡ cookie_body s
-  body_none q k = body_is (reading-as.NoCookie q) k
-
-  module _ (q : ℕ) (c : Cookie) (k : x ≡ reading-as.CookieAt q c) where
-    pub body_at_lem : take (c.end - c.start) (drop c.start s) ≡ cookie_body s
-    body_at_lem = body_is (reading-as.CookieAt q c) k
-
-    inside : (c.start ≤ c.end) × (c.end ≤ length s)
-    inside = subst (AnswerInside (length s)) (sym read ∙ ap answer_of k) (request_inside s)
-
-    pub body_ordered : c.start ≤ c.end
+    pub body_ordered : start ≤ end
     body_ordered = inside.0
 
-    pub body_within : c.end ≤ length s
+    pub body_within : end ≤ length s
     body_within = inside.1
 
     -- check 10 let it through
-    pub body_legal : is_cookie_length (length (take (c.end - c.start) (drop c.start s))) ≡ true
-    body_legal = subst (AnswerLegal s) (sym read ∙ ap answer_of k) (request_legal s)
+    pub body_legal : is_cookie_length (length (take (end - start) (drop start s))) ≡ true
+    body_legal = subst (AnswerLegal s) (sym read) (request_legal s)

@@ -1,19 +1,18 @@
 -- Cases that pin the definitions of Request.antt and Answers.antt: for each check messages that it refuses, and one in which a student would see the next
 -- check's reason too. Assumes nothing.
-use Rattle.std.specs.Prelude.{◌≡◌, true, false, List, [], ◌∷◌, ◌++◌, map, ℕ, ◌≤◌, length, replicate}
+use Rattle.std.specs.Prelude.{◌≡◌, true, false, List, [], ◌∷◌, ◌++◌, map, ℕ, ◌≤◌, length, replicate, Some, None, Ok, Err, ⊤}
 use Rattle.octets.specs.Numbers.{be_bytes, printed, up_to}
 use Rattle.octets.specs.Refusals.{Row, ◌when◌}
 use Rattle.message.specs.Cases.{flagged, question, plain}
 use Rattle.message.specs.Message.{qdcount}
 use Rattle.edns.specs.declared.Cookie.{Cookie}
-use Rattle.request.specs.Answers.{refusal_number, head_number, answer_of}
+use Rattle.request.specs.Answers.{refusal_number, of_fault, head_number, answer_of}
 use Rattle.request.specs.Request.{wrong_size, is_response, many_questions, checks, head_checks, refused, no_cookie, cookie, request, body_at, cookie_body}
-use Rattle.request.specs.declared.Head.TheVariants as head_as
-use Rattle.request.specs.declared.Reading.TheVariants as reading-as
+use Rattle.message.specs.declared.Fault.TheVariants as fault-as
 use Rattle.request.specs.declared.Refusal.{Refusal}
 use Rattle.request.specs.declared.Refusal.TheVariants.{Size, Response, Questions, Malformed, WrongOpt, Version, OptionPast, CookieLength}
 
--- what the enums say, case by case
+-- what the answers say, case by case
 pub record NamesHold : Type 0 where
   pub size : refusal_number Size ≡ 3
   pub response : refusal_number Response ≡ 4
@@ -23,11 +22,13 @@ pub record NamesHold : Type 0 where
   pub version : refusal_number Version ≡ 8
   pub option_past_case : refusal_number OptionPast ≡ 9
   pub cookie_length : refusal_number CookieLength ≡ 10
-  pub head_refused : (r : Refusal) → head_number (head_as.Refused r) ≡ refusal_number r
-  pub head_passed : head_number head_as.Passed ≡ 0
-  pub refused_by : (r : Refusal) → answer_of (reading-as.Refused r) ≡ refused (refusal_number r)
-  pub without : (q : ℕ) → answer_of (reading-as.NoCookie q) ≡ no_cookie q
-  pub with_one : (q : ℕ) (c : Cookie) → answer_of (reading-as.CookieAt q c) ≡ cookie q c.start c.end
+  pub malformed_is : of_fault fault-as.Malformed ≡ Malformed
+  pub wrong_opt_is : of_fault fault-as.WrongOpt ≡ WrongOpt
+  pub head_refused : (r : Refusal) → head_number (Err r) ≡ refusal_number r
+  pub head_passed : (x : ⊤) → head_number (Ok x) ≡ 0
+  pub refused_by : (r : Refusal) → answer_of (Err r) ≡ refused (refusal_number r)
+  pub without : (q : ℕ) → answer_of (Ok (record { qdcount = q; cookie = None })) ≡ no_cookie q
+  pub with_one : (q : ℕ) (c : Cookie) → answer_of (Ok (record { qdcount = q; cookie = Some c })) ≡ cookie q c.start c.end
 
 -- the numbers of rows, in their order
 abbrev pub numbers : List Row → List ℕ

@@ -5,98 +5,95 @@ ghost use Rattle.request.specs.Answers.{head_number, answer_of};
 ghost use Rattle.request.specs.Request.{head_checks, request, cookie_body};
 ghost use Rattle.request.specs.Rest.{after_cookie, after_opt, after_head};
 
-use crate::{Head, Reading, Refusal};
-use edns::{Cookie, Listing};
-use message::{Outline, Record};
+use crate::{Reading, Refusal};
+use edns::Cookie;
+use message::Record;
 
 // Check 10, and where the first COOKIE body lies in the message.
-fn read_cookie(qdcount: u16, base: usize, cookie: Cookie) -> Reading
+fn read_cookie(qdcount: u16, base: usize, cookie: Cookie) -> Result<Reading, Refusal>
     requires { (cookie.start ≤ cookie.end) × (base + cookie.end ≤ 65535) }
     ensures { answer_of result ≡ after_cookie qdcount base cookie.start cookie.end }
 {
     if !edns::is_cookie_length(cookie.end - cookie.start) {
-        return Reading::Refused(Refusal::CookieLength);
+        return Err(Refusal::CookieLength);
     }
-    Reading::CookieAt {
+    let in_message = Cookie {
+        start: base + cookie.start,
+        end: base + cookie.end,
+    };
+    Ok(Reading {
         qdcount,
-        cookie: Cookie {
-            start: base + cookie.start,
-            end: base + cookie.end,
-        },
-    }
+        cookie: Some(in_message),
+    })
 }
 
 // Checks 8 to 10.
-fn read_opt(message: &[u8], qdcount: u16, opt: Record) -> Reading
+fn read_opt(message: &[u8], qdcount: u16, opt: Record) -> Result<Reading, Refusal>
     requires { (opt.start ≤ opt.end) × (opt.end ≤ length message.now) × (length message.now ≤ 65535) }
     ensures { answer_of result ≡ after_opt message.now qdcount opt }
 {
     if opt.version != 0 {
-        return Reading::Refused(Refusal::Version);
+        return Err(Refusal::Version);
     }
     let start = opt.start;
     let end = opt.end;
-    match edns::walk(&message[start..end]) {
-        Listing::Past => Reading::Refused(Refusal::OptionPast),
-        Listing::NoCookie => Reading::NoCookie { qdcount },
-        Listing::First(cookie) => read_cookie(qdcount, start, cookie),
+    match edns::walk(&message[start..end])? {
+        None => Ok(Reading {
+            qdcount,
+            cookie: None,
+        }),
+        Some(cookie) => read_cookie(qdcount, start, cookie),
     }
 }
 
 // Checks 5 to 10.
-fn read_rest(message: &[u8]) -> Reading
+fn read_rest(message: &[u8]) -> Result<Reading, Refusal>
     requires { (12 ≤ length message.now) × (length message.now ≤ 65535) }
     ensures { answer_of result ≡ after_head message.now }
 {
-    let qdcount = octets::be16(message[4], message[5]);
+    let qdcount = octets::be16([message[4], message[5]]);
     if 1 < qdcount {
-        return Reading::Refused(Refusal::Questions);
+        return Err(Refusal::Questions);
     }
-    match message::walk(message) {
-        Outline::Malformed => Reading::Refused(Refusal::Malformed),
-        Outline::WrongOpt => Reading::Refused(Refusal::WrongOpt),
-        Outline::NoOpt => Reading::NoCookie { qdcount },
-        Outline::Opt(opt) => read_opt(message, qdcount, opt),
+    match message::walk(message)? {
+        None => Ok(Reading {
+            qdcount,
+            cookie: None,
+        }),
+        Some(opt) => read_opt(message, qdcount, opt),
     }
 }
 
 // Checks 3 and 4: all that mode Disabled asks of a message.
-pub fn check_head(message: &[u8]) -> Head
+pub fn check_head(message: &[u8]) -> Result<(), Refusal>
     ensures { head_number result ≡ first (head_checks message.now) }
 {
-    if message.len() < 12 {
-        return Head::Refused(Refusal::Size);
-    }
-    if 65535 < message.len() {
-        return Head::Refused(Refusal::Size);
+    if !(12..=65535).contains(&message.len()) {
+        return Err(Refusal::Size);
     }
     if 128 <= message[2] {
-        return Head::Refused(Refusal::Response);
+        return Err(Refusal::Response);
     }
-    Head::Passed
+    Ok(())
 }
 
 // Reads a request outside mode Disabled: checks 3 to 10.
-pub fn read(message: &[u8]) -> Reading
+pub fn read(message: &[u8]) -> Result<Reading, Refusal>
     ensures { answer_of result ≡ request message.now }
 {
-    match check_head(message) {
-        Head::Refused(refusal) => Reading::Refused(refusal),
-        Head::Passed => read_rest(message),
-    }
+    check_head(message)?;
+    read_rest(message)
 }
 
 // The body of the first COOKIE option, as a part of the message; an empty part if there is none or a check refuses.
 pub fn cookie_body(message: &[u8]) -> &[u8]
     ensures { result.now ≡ cookie_body message.now }
 {
-    match read(message) {
-        Reading::Refused(_) => &message[0..0],
-        Reading::NoCookie { qdcount: _ } => &message[0..0],
-        Reading::CookieAt { qdcount: _, cookie } => {
-            let start = cookie.start;
-            let end = cookie.end;
-            &message[start..end]
-        }
+    let Ok(reading) = read(message) else {
+        return &message[..0];
+    };
+    match reading.cookie {
+        None => &message[..0],
+        Some(cookie) => &message[cookie.start..cookie.end],
     }
 }

@@ -3,63 +3,37 @@
 #![tactic(auto)]
 
 mod checks;
-
-ghost use Rattle.std.specs.Prelude.{◌≡◌};
-ghost use Rattle.request.specs.Answers.{refusal_number};
+mod refusals;
 
 pub use checks::{check_head, cookie_body, read};
 use edns::Cookie;
 
-// Why a request is refused: document 01's refusals 3 to 10.
-#[derive(Clone, Copy)]
+// Why a request is refused: document 01's refusals, each with its number.
+#[derive(Clone, Copy, Debug, PartialEq, Eq)]
 pub enum Refusal {
     // Under 12 or over 65,535 bytes.
-    Size,
+    Size = 3,
     // QR is 1.
-    Response,
+    Response = 4,
     // QDCOUNT above 1.
-    Questions,
+    Questions = 5,
     // A malformed name, a part past the end, bytes left over.
-    Malformed,
+    Malformed = 6,
     // An OPT misplaced, its owner not the root, or a second OPT.
-    WrongOpt,
+    WrongOpt = 7,
     // An EDNS version other than 0.
-    Version,
+    Version = 8,
     // An option past the OPT data.
-    OptionPast,
+    OptionPast = 9,
     // A first COOKIE body of an illegal length.
-    CookieLength,
+    CookieLength = 10,
 }
 
-// What the checks of a message's size and QR give.
-#[derive(Clone, Copy)]
-pub enum Head {
-    Refused(Refusal),
-    Passed,
-}
-
-// What reading a request gives. QDCOUNT is told because the reply depends on it.
-#[derive(Clone, Copy)]
-pub enum Reading {
-    Refused(Refusal),
-    // No OPT, or no COOKIE option in it.
-    NoCookie { qdcount: u16 },
-    // Where the body of the first COOKIE option lies in the message.
-    CookieAt { qdcount: u16, cookie: Cookie },
-}
-
-// Document 01's number of a refusal, 3 to 10.
-pub fn refusal_number(refusal: Refusal) -> u8
-    ensures { result ≡ refusal_number refusal }
-{
-    match refusal {
-        Refusal::Size => 3,
-        Refusal::Response => 4,
-        Refusal::Questions => 5,
-        Refusal::Malformed => 6,
-        Refusal::WrongOpt => 7,
-        Refusal::Version => 8,
-        Refusal::OptionPast => 9,
-        Refusal::CookieLength => 10,
-    }
+// What is read of a request.
+#[derive(Clone, Copy, Debug, PartialEq, Eq)]
+pub struct Reading {
+    // Told because the reply depends on it.
+    pub qdcount: u16,
+    // Where the body of the first COOKIE option lies in the message; none if there is no OPT, or no COOKIE option in it.
+    pub cookie: Option<Cookie>,
 }

@@ -1,11 +1,12 @@
 -- A number put into a buffer with the byte after it, its last digit first or all its digits at once. Assumes nothing.
 use mathlib.Core.Path.{◌≡◌, refl, sym, ap, ◌∙◌}
-use mathlib.Core.Bool.{Bool, cond}
+use mathlib.Core.Bool.{Bool, true, false, cond}
 use mathlib.Core.List.{List, [], ◌∷◌, ◌++◌, append-nil}
 use Prim.Native.Nat.{ℕ, suc, ◌+◌, ◌-◌, ◌/◌, ◌%◌, ◌^◌, ◌≤◌, ◌<◌}
 use native.Mathlib.Omega.{arith}
 use lib.ListN.{length, set, length-append, length-set}
 use lib.Seq.{append_snoc}
+use Rattle.std.specs.Int.{from_bool}
 use Rattle.octets.specs.Runs.{written}
 use Rattle.rows.specs.Rows.{decimal}
 use Rattle.rows.specs.Steps.{Put}
@@ -100,7 +101,12 @@ module _ (before : List ℕ) (at x after end : ℕ) (buffer : List ℕ) where
       → Put 4 before at (decimal x ++ (after ∷ [])) end buffer
   small_three above below = put_as 4 4 before at _ _ end buffer (omega arith) (rw (decimal_three x above (omega arith)))
 
--- a bit
-pub bit_put : (before : List ℕ) (at : ℕ) (bit : Bool) (b after end : ℕ) (buffer : List ℕ) → b ≡ 48 + cond bit 1 0
-    → Put 2 before at (b ∷ after ∷ []) end buffer → Put 2 before at (decimal (cond bit 1 0) ++ (after ∷ [])) end buffer
-bit_put before at bit b after end buffer is = put_as 2 2 before at _ _ end buffer (omega arith) (rw (decimal_one (cond bit 1 0) (bit_below bit), is))
+-- a bit, by the number that the library makes of it
+bit_number : (bit : Bool) → from_bool bit ≡ cond bit 1 0
+bit_number true = refl
+bit_number false = refl
+
+pub bit_put : (before : List ℕ) (at : ℕ) (bit : Bool) (b after end : ℕ) (buffer : List ℕ) → b ≡ from_bool bit
+    → Put 2 before at ((48 + b) ∷ after ∷ []) end buffer → Put 2 before at (decimal (cond bit 1 0) ++ (after ∷ [])) end buffer
+bit_put before at bit b after end buffer is =
+    put_as 2 2 before at _ _ end buffer (omega arith) (rw (decimal_one (cond bit 1 0) (bit_below bit), is, bit_number bit))

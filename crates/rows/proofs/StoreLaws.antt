@@ -1,13 +1,16 @@
 -- Bytes stored one by one are a run written. Assumes nothing.
-use mathlib.Core.Path.{◌≡◌, refl, sym, ap, ◌∙◌}
+use mathlib.Core.Path.{◌≡◌, sym, ap, ◌∙◌}
 use mathlib.Core.List.{List, [], ◌∷◌, ◌++◌}
 use Prim.Native.Nat.{ℕ, suc, ◌+◌, ◌≤◌, ◌<◌}
 use native.Mathlib.Omega.{arith}
 use borrow.Author.Tests.{le-leb}
-use lib.ListN.{length, take, drop, set, length-append}
+use lib.ListN.{length, take, drop, set, length-append, length-drop}
 use lib.Seq.{sets, sets-eq, append_snoc, set-append_left, take-set-lt, take-suc-set, length-take-le}
 use Rattle.octets.specs.Runs.{fits, written}
-use Rattle.octets.proofs.RunLaws.{length_written, written_next}
+use Rattle.octets.proofs.RunLaws.{length_written, written_next, written_whole}
+use Rattle.std.proofs.lemmas.Slice.{put_mid-paste}
+use borrow.Rule.Slice.PartMut.{put_mid}
+use lib.Seq.{paste}
 use Rattle.rows.specs.Steps.{Put}
 
 module _ (buffer : List ℕ) (at : ℕ) where
@@ -43,7 +46,14 @@ byte_before buffer at run b within =
     ∙ ap (λ (k : ℕ). take at buffer ++ (b ∷ run) ++ drop k buffer) end
     ∙ whole buffer at (b ∷ run) (omega arith)
 
--- bytes stored from the first on
-pub put_bytes : (buffer : List ℕ) (at : ℕ) (run after : List ℕ) → at + length run ≤ length buffer → after ≡ sets buffer at run
-    → Put (length run) buffer at run (at + length run) after
-put_bytes buffer at run after within e = record { ends = refl; within = omega arith; holds = e ∙ stored buffer at run within }
+-- bytes copied over a part
+pub copied : (n at k : ℕ) (buffer run new : List ℕ) → k ≡ n → at + n ≤ length buffer → length new ≡ length (take k (drop at buffer)) → new ≡ run
+    → Put n buffer at run (at + n) (put_mid at k buffer new)
+copied n at k buffer run new is within long e =
+    let all : n ≡ length run =
+    sym (ap length (sym e) ∙ long ∙ ap (λ (m : ℕ). length (take m (drop at buffer))) is ∙ length-take-le n (drop at buffer) (omega (arith, length-drop at buffer))) in
+    record {
+      ends = omega arith;
+      within = omega arith;
+      holds = put_mid-paste at k buffer new run n e (sym is) all ∙ ap (paste buffer at run) all ∙ (written_whole buffer at run (omega arith)).1;
+    }

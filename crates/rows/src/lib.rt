@@ -1,21 +1,22 @@
-// The lines of a journal's listing, put into a lent buffer.
-#![tactic(auto)]
+// The lines of a journal's listing, put into a lent buffer. It is no `Display`: `put_row` promises each byte of the buffer and the place
+// where the line ends, room or not, and that may not change.
+#![tactic(auto, using(crate::proofs::RowLaws::no_room, crate::proofs::RowLaws::no_room_there))]
 
 ghost use Rattle.std.specs.Prelude.{◌≡◌, cond, ◌++◌, ◌∷◌, [], ◌+◌, ◌≤◌, length};
 ghost use Rattle.rows.specs.Rows.{decimal, line, row_line, short_line, ◌leaving◌, placed};
 ghost use Rattle.rows.specs.Steps.{Put};
 
 // What is said of a record.
-#[derive(Clone, Copy)]
+#[derive(Clone, Copy, Debug, PartialEq, Eq)]
 pub struct Row {
     // The record's number, from 1.
     pub number: u64,
+    // The record's first byte, whatever it is, and 0 or the refusal's number: what is printed, so no enums.
     pub kind: u8,
-    // 0, or the refusal's number.
     pub answer: u8,
     // Whether a rollover is open afterwards.
     pub rolling: bool,
-    // The members at each stage afterwards.
+    // The members at each stage afterwards: four fields and no array, as `row_line` (specs/Rows) names them.
     pub at0: u8,
     pub at1: u8,
     pub at2: u8,
@@ -47,7 +48,11 @@ fn digits(x: u64) -> usize
     count + 4
 }
 
-// Puts a number and the byte after it, the last digit first, so that each is stored where it stays.
+// The buffer and the place stay two parameters. Of a struct that holds the borrow each function would promise too that
+// the borrow is the same and the buffer as long, which is known of a slice: three clauses where there is one (tried).
+
+// Puts a number and the byte after it, the last digit first, so that each is stored where it stays: the place goes down with the
+// quotient, and there is no list to walk.
 fn put_number(buffer: &mut [u8], at: usize, x: u64, after: u8) -> usize
     requires { at + 21 ≤ length buffer.old }
     ensures { Put 21 buffer.old at (decimal x ++ (after ∷ [])) result buffer.new }
@@ -57,43 +62,21 @@ fn put_number(buffer: &mut [u8], at: usize, x: u64, after: u8) -> usize
     let mut rest = x;
     while 10 <= rest {
         place -= 1;
-        buffer[place] = 48 + (rest % 10) as u8;
+        buffer[place] = b'0' + (rest % 10) as u8;
         rest /= 10;
     }
-    buffer[at] = 48 + rest as u8;
+    buffer[at] = b'0' + rest as u8;
     buffer[end] = after;
     end + 1
 }
 
-// Puts two bytes, three, four: a small number and the byte after it.
-fn put_two(buffer: &mut [u8], at: usize, a: u8, b: u8) -> usize
-    requires { at + 2 ≤ length buffer.old }
-    ensures { Put 2 buffer.old at (a ∷ b ∷ []) result buffer.new }
+// Puts bytes: a small number and the byte after it.
+fn put_bytes<const N: usize>(buffer: &mut [u8], at: usize, bytes: [u8; N]) -> usize
+    requires { at + N ≤ length buffer.old }
+    ensures { Put N buffer.old at bytes.entry result buffer.new }
 {
-    buffer[at] = a;
-    buffer[at + 1] = b;
-    at + 2
-}
-
-fn put_three(buffer: &mut [u8], at: usize, a: u8, b: u8, c: u8) -> usize
-    requires { at + 3 ≤ length buffer.old }
-    ensures { Put 3 buffer.old at (a ∷ b ∷ c ∷ []) result buffer.new }
-{
-    buffer[at] = a;
-    buffer[at + 1] = b;
-    buffer[at + 2] = c;
-    at + 3
-}
-
-fn put_four(buffer: &mut [u8], at: usize, a: u8, b: u8, c: u8, d: u8) -> usize
-    requires { at + 4 ≤ length buffer.old }
-    ensures { Put 4 buffer.old at (a ∷ b ∷ c ∷ d ∷ []) result buffer.new }
-{
-    buffer[at] = a;
-    buffer[at + 1] = b;
-    buffer[at + 2] = c;
-    buffer[at + 3] = d;
-    at + 4
+    buffer[at..at + N].copy_from_slice(&bytes);
+    at + N
 }
 
 // Puts a number of 8 bits and the byte after it, with no loop.
@@ -102,26 +85,16 @@ fn put_small(buffer: &mut [u8], at: usize, x: u8, after: u8) -> usize
     ensures { Put 4 buffer.old at (decimal x ++ (after ∷ [])) result buffer.new }
 {
     if x < 10 {
-        return put_two(buffer, at, 48 + x, after);
+        return put_bytes(buffer, at, [b'0' + x, after]);
     }
     if x < 100 {
-        return put_three(buffer, at, 48 + x / 10, 48 + x % 10, after);
+        return put_bytes(buffer, at, [b'0' + x / 10, b'0' + x % 10, after]);
     }
-    put_four(
+    put_bytes(
         buffer,
         at,
-        48 + x / 100,
-        48 + x / 10 % 10,
-        48 + x % 10,
-        after,
+        [b'0' + x / 100, b'0' + x / 10 % 10, b'0' + x % 10, after],
     )
-}
-
-// A bit's digit.
-fn bit_digit(bit: bool) -> u8
-    ensures { result ≡ 48 + cond bit 1 0 }
-{
-    if bit { 49 } else { 48 }
 }
 
 // Puts a bit and the byte after it.
@@ -129,7 +102,7 @@ fn put_bit(buffer: &mut [u8], at: usize, bit: bool, after: u8) -> usize
     requires { at + 2 ≤ length buffer.old }
     ensures { Put 2 buffer.old at (decimal (cond bit 1 0) ++ (after ∷ [])) result buffer.new }
 {
-    put_two(buffer, at, bit_digit(bit), after)
+    put_bytes(buffer, at, [b'0' + u8::from(bit), after])
 }
 
 // Puts the end of a row's line, the members at each stage.
@@ -148,10 +121,7 @@ fn put_counts(buffer: &mut [u8], at: usize, at0: u8, at1: u8, at2: u8, at3: u8) 
 pub fn put_row(buffer: &mut [u8], at: usize, row: Row) -> usize
     ensures { result leaving buffer.new ≡ placed buffer.old at (row_line row) }
 {
-    if buffer.len() < LONGEST {
-        return at;
-    }
-    if buffer.len() - LONGEST < at {
+    if buffer.len() < LONGEST || buffer.len() - LONGEST < at {
         return at;
     }
     let end = put_number(buffer, at, row.number, b' ');
@@ -165,10 +135,7 @@ pub fn put_row(buffer: &mut [u8], at: usize, row: Row) -> usize
 pub fn put_short(buffer: &mut [u8], at: usize, count: u64) -> usize
     ensures { result leaving buffer.new ≡ placed buffer.old at (short_line count) }
 {
-    if buffer.len() < LONGEST {
-        return at;
-    }
-    if buffer.len() - LONGEST < at {
+    if buffer.len() < LONGEST || buffer.len() - LONGEST < at {
         return at;
     }
     octets::put(buffer, at, b"short ");

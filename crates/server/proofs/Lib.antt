@@ -1,6 +1,5 @@
 pub mod Cases
 pub mod Claims
 pub mod OneAnswer
-pub mod RefusalLaws
 pub mod ReplyLaws
 pub mod RespondLaws

@@ -1,24 +1,17 @@
 -- The checks of a request in the order in which the code comes to them, one law for each answer. Assumes nothing.
 use Prim.Native.Nat.{ℕ, zero, suc, ◌-◌, ◌≤◌, ◌<◌}
 use mathlib.Core.Path.{◌≡◌, refl, sym, ap, ◌∙◌}
-use mathlib.Core.Bool.{Bool, true, false, not, false≢true}
+use mathlib.Core.Bool.{Bool, true, false, false≢true}
 use mathlib.Core.List.{List, []}
 use mathlib.Core.Option.{Option, none, some, get_or}
-use borrow.Author.Tests.{lt-ltb, le-ltb, not-true}
+use borrow.Author.Tests.{lt-ltb, le-ltb}
 use lib.ListN.{length, take, drop}
 use Rattle.octets.specs.Refusals.{Row, first, answered}
-use Rattle.edns.specs.declared.Cookie.{Cookie}
 use Rattle.edns.specs.declared.EdnsOption.{EdnsOption}
 use Rattle.message.specs.Message.{qdcount}
-use Rattle.request.proofs.RestLaws.{positive}
 use Rattle.request.specs.Answers as request-answers
-use Rattle.request.specs.Answers.{head_number}
 use Rattle.request.specs.Request as request
 use Rattle.request.specs.Request.{opts_in, cookie_of, head_checks, start_of, found}
-use Rattle.request.specs.declared.Head.{Head}
-use Rattle.request.specs.declared.Head.TheVariants as head_as
-use Rattle.request.specs.declared.Reading.{Reading}
-use Rattle.request.specs.declared.Reading.TheVariants as reading-as
 use Rattle.request.specs.declared.Refusal as request-refusal
 use Rattle.secret.specs.declared.Secrets.{Secrets}
 use Rattle.verdict.proofs.ReplyLaws.{when_on}
@@ -28,27 +21,17 @@ use Rattle.verdict.specs.ReplyTable.Sent.{serve}
 use Rattle.verdict.specs.declared.Carried.TheVariants.{Nothing}
 use Rattle.verdict.specs.declared.Mode.{Mode}
 use Rattle.verdict.specs.declared.Mode.TheVariants.{Disabled, Enabled, Enforced}
-use Rattle.cookie.proofs.ServerLaws.{is_address_lem}
 use Rattle.cookie.specs.ServerCookie.{CookieMethod, sip_hash_method, is_address}
 use Rattle.server.proofs.ReplyLaws.{absent_none}
-use Rattle.server.specs.Answers.{answer_of}
+use Rattle.std.specs.Prelude.{Result, Ok, Err}
+use Rattle.server.specs.Answers.{replied_of, answer_of}
+use Rattle.server.specs.declared.Answered.{Answered}
+use Rattle.server.specs.declared.Refusal.{Refusal}
 use Rattle.server.specs.Server.{Answer, refused, replied, Outcome, ◌leaving◌, unless_disabled, body_in, judged, verdict_on, refusing, replying, respond}
 use Rattle.server.specs.Steps.{on_cookie, ignoring}
 use Rattle.server.specs.declared.Refusal.TheVariants.{Output, Address, Request}
-use Rattle.server.specs.declared.Response.{Response}
-use Rattle.server.specs.declared.Response.TheVariants as response-as
 
--- ---- mode Disabled, and the others
-
-pub not_disabled : (mode : Mode) (d : Bool) → d ≡ is_disabled mode → d ≡ false → is_disabled mode ≡ false
-not_disabled mode d is e = sym is ∙ e
-
-module _ (message : List ℕ) (h : Head) (told : head_number h ≡ first (head_checks message)) where
-  pub ignore_refused : (f : request-refusal.Refusal) → h ≡ head_as.Refused f → refused (request-answers.refusal_number f) ≡ ignoring message
-  ignore_refused f is = let n = positive f in rw (← told, is, n.1)
-
-  pub ignore_passed : h ≡ head_as.Passed → replied ignored (serve carrying Nothing) ≡ ignoring message
-  ignore_passed is = rw (← told, is)
+-- ---- mode Disabled
 
 module _ (m : CookieMethod) (secrets : Secrets) (clock : ℕ) (address message output : List ℕ) where
   -- behind checks 1 and 2
@@ -107,35 +90,36 @@ module _ (mode : Mode) (secrets : Secrets) (clock : ℕ) (address message output
   told_is : {a b : Answer} → a ≡ b → (a leaving output) ≡ (b leaving output)
   told_is e = ap (λ (x : Answer). x leaving output) e
 
-  abbrev Is : Response → List ℕ → Type 0
+  abbrev Is : Result Answered Refusal → List ℕ → Type 0
   Is r after = answer_of r leaving after ≡ respond sip_hash_method mode secrets clock address message output
 
-  pub refuse_1 : length output < 28 → Is (response-as.Refused Output) output
+  pub refuse_1 : length output < 28 → Is (Err Output) output
   unfolding respond
   refuse_1 short = simp (lt-ltb (length output) 28 short)
 
-  module _ (room : 28 ≤ length output) (a : Bool) (is-a : a ≡ is_address address) where
-    pub refuse_2 : not a ≡ true → Is (response-as.Refused Address) output
+  module _ (room : 28 ≤ length output) where
+    pub refuse_2 : (a : Bool) → a ≡ is_address address → a ≡ false → Is (Err Address) output
     unfolding respond
-    refuse_2 e = rw (le-ltb (length output) 28 room, ← is-a, not-true a e)
+    refuse_2 a is e = rw (le-ltb (length output) 28 room, ← is, e) refl
 
-    module _ (from : not a ≡ false) where
-      module _ (d : Bool) (is-d : d ≡ is_disabled mode) where
-        pub ignored_is : d ≡ true → (r : Response) → answer_of r ≡ ignoring message → Is r output
-        ignored_is e r told = told_is told ∙ ignoring_is sip_hash_method secrets clock address message output room (is_address_lem address a is-a from) mode (sym is-d ∙ e)
+    module _ (a : Bool) (is-a : a ≡ is_address address) (yes' : a ≡ true) (d : Bool) (is-d : d ≡ is_disabled mode) where
+      pub ignored_is : d ≡ true → (r : Result Answered Refusal) → answer_of r ≡ ignoring message → Is r output
+      ignored_is e r told = told_is told ∙ ignoring_is sip_hash_method secrets clock address message output room (sym is-a ∙ yes') mode (sym is-d ∙ e)
 
-        module _ (e : d ≡ false) (x : Reading) (read : request-answers.answer_of x ≡ request.request message) where
-          by : (y : Reading) → x ≡ y → on_reading sip_hash_method mode secrets clock address message output (request-answers.answer_of y) ≡ respond sip_hash_method mode secrets clock address message output
-          by y k = ap (on_reading sip_hash_method mode secrets clock address message output) (sym (ap request-answers.answer_of k) ∙ read) ∙ read_is sip_hash_method mode secrets clock address message output (not_disabled mode d is-d e) room (is_address_lem address a is-a from)
+      module _ (e : d ≡ false) where
+        by : (x : request.Answer) → x ≡ request.request message
+            → on_reading sip_hash_method mode secrets clock address message output x ≡ respond sip_hash_method mode secrets clock address message output
+        by x read = ap (on_reading sip_hash_method mode secrets clock address message output) read ∙ read_is sip_hash_method mode secrets clock address message output (sym is-d ∙ e) room (sym is-a ∙ yes')
 
-          pub refused_is : (f : request-refusal.Refusal) → x ≡ reading-as.Refused f → Is (response-as.Refused (Request f)) output
-          refused_is f k = by (reading-as.Refused f) k
+        pub refused_is : (f : request-refusal.Refusal) → request.refused (request-answers.refusal_number f) ≡ request.request message → Is (Err (Request f)) output
+        refused_is f read = by (request.refused (request-answers.refusal_number f)) read
 
-          pub absent_is : (q : ℕ) → x ≡ reading-as.NoCookie q → (r : Response) → answer_of r ≡ replied absent (reply_owed mode q absent []) → Is r output
-          absent_is q k r told = told_is told ∙ absent_stays sip_hash_method mode secrets clock address q output ∙ by (reading-as.NoCookie q) k
+        pub absent_is : (q : ℕ) → request.no_cookie q ≡ request.request message → (r : Answered) → replied_of r ≡ replied absent (reply_owed mode q absent []) → Is (Ok r) output
+        absent_is q read r told = told_is told ∙ absent_stays sip_hash_method mode secrets clock address q output ∙ by (request.no_cookie q) read
 
-          module _ (q : ℕ) (c : Cookie) (k : x ≡ reading-as.CookieAt q c) where
-            pub cookie_is : (r : Response) (after : List ℕ)
-                → answer_of r leaving after ≡ on_cookie sip_hash_method mode secrets clock address q output (some (take (c.end - c.start) (drop c.start message)))
-                → Is r after
-            cookie_is r after told = told ∙ by (reading-as.CookieAt q c) k
+        module _ (q start end : ℕ) (read : request.cookie q start end ≡ request.request message) where
+          pub cookie_is : (x : List ℕ) → x ≡ address → (r : Answered) (after : List ℕ)
+              → replied_of r leaving after ≡ on_cookie sip_hash_method mode secrets clock x q output (some (take (end - start) (drop start message)))
+              → Is (Ok r) after
+          cookie_is x same r after told =
+              told ∙ ap (λ (l : List ℕ). on_cookie sip_hash_method mode secrets clock l q output (some (take (end - start) (drop start message)))) same ∙ by (request.cookie q start end) read

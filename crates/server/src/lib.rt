@@ -6,12 +6,12 @@
 mod refusals;
 mod responses;
 
-pub use refusals::{error_reply, refusal_number};
+pub use refusals::error_reply;
 pub use responses::respond;
 use verdict::{Reply, Verdict};
 
 // Why a request is refused: document 01's refusals 1 to 10.
-#[derive(Clone, Copy)]
+#[derive(Clone, Copy, Debug, PartialEq, Eq)]
 pub enum Refusal {
     // 1: an output of less than 28 bytes.
     Output,
@@ -22,7 +22,7 @@ pub enum Refusal {
 }
 
 // What is owed to whoever sent a request that is refused.
-#[derive(Clone, Copy)]
+#[derive(Clone, Copy, Debug, PartialEq, Eq)]
 pub enum ErrorReply {
     // The caller's fault, refusals 1 and 2: no fault of the request's.
     CallersFault,
@@ -34,11 +34,10 @@ pub enum ErrorReply {
     BadVers,
 }
 
-// What comes of a request.
-#[derive(Clone, Copy)]
-pub enum Response {
-    // The output is as it was.
-    Refused(Refusal),
-    // The verdict, what the reply is, and which COOKIE option it carries: that of 28 bytes which the output now starts with, or none.
-    Reply { verdict: Verdict, reply: Reply },
+// What comes of a request that no check refuses.
+#[derive(Clone, Copy, Debug, PartialEq, Eq)]
+pub struct Answered {
+    pub verdict: Verdict,
+    // What the reply is, and which COOKIE option it carries: that of 28 bytes which the output now starts with, or none.
+    pub reply: Reply,
 }

@@ -1,9 +1,9 @@
 // SipHash-2-4 (Aumasson and Bernstein, "SipHash: a fast short-input PRF") of a message of any length.
 #![tactic(auto)]
 
-ghost use Rattle.std.specs.Prelude.{◌≡◌, ◌+◌, ◌<◌, ◌≤◌, ◌++◌, length, take, drop, bit_xor};
-ghost use Rattle.octets.specs.Numbers.{le_number, le_bytes};
-ghost use Rattle.siphash.specs.SipHash.{add64, rotl64, sip_round, initialized, compressed, last_word, finalized, sip_hash24, sip_hash24_bytes, key_of};
+ghost use Rattle.std.specs.Prelude.{◌≡◌, ◌++◌};
+ghost use Rattle.octets.specs.Numbers.{le_bytes};
+ghost use Rattle.siphash.specs.SipHash.{sip_round, initialized, compressed, last_word, finalized, sip_hash24, sip_hash24_bytes, key_of};
 
 use secret::Secret;
 
@@ -16,38 +16,19 @@ struct State {
     v3: u64,
 }
 
-fn add(a: u64, b: u64) -> u64
-    ensures { result ≡ add64 a b }
-{
-    std::num::wrapping_add_u64(a, b)
-}
-
-fn xor(a: u64, b: u64) -> u64
-    ensures { result ≡ bit_xor a b }
-{
-    a ^ b
-}
-
-fn rotate(x: u64, n: u64) -> u64
-    requires { (0 < n) × (n < 64) }
-    ensures { result ≡ rotl64 x n }
-{
-    (x << n) | (x >> (64 - n))
-}
-
 fn round(s: State) -> State
     ensures { result ≡ sip_round s }
 {
-    let a0 = add(s.v0, s.v1);
-    let a2 = add(s.v2, s.v3);
-    let a1 = xor(rotate(s.v1, 13), a0);
-    let a3 = xor(rotate(s.v3, 16), a2);
-    let b0 = rotate(a0, 32);
-    let b2 = add(a2, a1);
-    let c0 = add(b0, a3);
-    let b1 = xor(rotate(a1, 17), b2);
-    let b3 = xor(rotate(a3, 21), c0);
-    let c2 = rotate(b2, 32);
+    let a0 = s.v0.wrapping_add(s.v1);
+    let a2 = s.v2.wrapping_add(s.v3);
+    let a1 = s.v1.rotate_left(13) ^ a0;
+    let a3 = s.v3.rotate_left(16) ^ a2;
+    let b0 = a0.rotate_left(32);
+    let b2 = a2.wrapping_add(a1);
+    let c0 = b0.wrapping_add(a3);
+    let b1 = a1.rotate_left(17) ^ b2;
+    let b3 = a3.rotate_left(21) ^ c0;
+    let c2 = b2.rotate_left(32);
     State {
         v0: c0,
         v1: b1,
@@ -56,97 +37,60 @@ fn round(s: State) -> State
     }
 }
 
+#[tactic(auto, unfolding(crate::specs::SipHash::initialized))]
 fn initialize(key: Secret) -> State
     ensures { result ≡ initialized key }
 {
     State {
-        v0: xor(key.k0, 0x736f6d6570736575),
-        v1: xor(key.k1, 0x646f72616e646f6d),
-        v2: xor(key.k0, 0x6c7967656e657261),
-        v3: xor(key.k1, 0x7465646279746573),
+        v0: key.k0 ^ 0x736f6d6570736575,
+        v1: key.k1 ^ 0x646f72616e646f6d,
+        v2: key.k0 ^ 0x6c7967656e657261,
+        v3: key.k1 ^ 0x7465646279746573,
     }
 }
 
+#[tactic(auto, unfolding(crate::specs::SipHash::compressed, crate::specs::SipHash::rounds))]
 fn compress(s: State, word: u64) -> State
     ensures { result ≡ compressed s word }
 {
-    let t = State {
-        v0: s.v0,
-        v1: s.v1,
-        v2: s.v2,
-        v3: xor(s.v3, word),
-    };
-    let r = round(round(t));
-    State {
-        v0: xor(r.v0, word),
-        v1: r.v1,
-        v2: r.v2,
-        v3: r.v3,
-    }
+    let v3 = s.v3 ^ word;
+    let r = round(round(State { v3, ..s }));
+    let v0 = r.v0 ^ word;
+    State { v0, ..r }
 }
 
+#[tactic(auto, unfolding(crate::specs::SipHash::finalized, crate::specs::SipHash::rounds))]
 fn finalize(s: State) -> u64
     ensures { result ≡ finalized s }
 {
-    let t = State {
-        v0: s.v0,
-        v1: s.v1,
-        v2: xor(s.v2, 255),
-        v3: s.v3,
-    };
-    let r = round(round(round(round(t))));
-    xor(xor(r.v0, r.v1), xor(r.v2, r.v3))
-}
-
-// The eight bytes from a place on, as a word.
-fn word(message: &[u8], at: usize) -> u64
-    requires { at + 8 ≤ length message.now }
-    ensures { result ≡ le_number (take 8 (drop at message.now)) }
-{
-    octets::le64(
-        message[at],
-        message[at + 1],
-        message[at + 2],
-        message[at + 3],
-        message[at + 4],
-        message[at + 5],
-        message[at + 6],
-        message[at + 7],
-    )
+    let v2 = s.v2 ^ 255;
+    let r = round(round(round(round(State { v2, ..s }))));
+    r.v0 ^ r.v1 ^ (r.v2 ^ r.v3)
 }
 
 // The bytes past the last whole word, at most seven, with the length modulo 256 on top.
 fn last_word(message: &[u8]) -> u64
     ensures { result ≡ last_word message.now }
 {
-    let at = message.len() / 8 * 8;
-    octets::le64(
-        octets::octet(message, at),
-        octets::octet(message, at + 1),
-        octets::octet(message, at + 2),
-        octets::octet(message, at + 3),
-        octets::octet(message, at + 4),
-        octets::octet(message, at + 5),
-        octets::octet(message, at + 6),
-        (message.len() % 256) as u8,
-    )
+    let mut bytes = octets::bytes_at(message, message.len() / 8 * 8);
+    bytes[7] = (message.len() % 256) as u8;
+    octets::le64(bytes)
 }
 
 // The hash of a message under a key, as a number.
 pub fn siphash24(key: Secret, message: &[u8]) -> u64
     ensures { result ≡ sip_hash24 key message.now }
 {
-    let n = message.len() / 8;
+    let (words, _) = message.as_chunks::<8>();
     let mut s = initialize(key);
-    let mut i = 0;
-    while i < n {
-        s = compress(s, word(message, i * 8));
-        i += 1;
+    for word in words {
+        s = compress(s, octets::le64(*word));
     }
     finalize(compress(s, last_word(message)))
 }
 
 // The same as its eight bytes, the lowest first, as a cookie holds them.
+#[tactic(auto, unfolding(crate::specs::SipHash::sip_hash24_bytes))]
 pub fn siphash24_bytes(key: Secret, message: &[u8]) -> [u8; 8]
     ensures { result ≡ sip_hash24_bytes key message.now }
 {
@@ -162,7 +106,8 @@ pub fn siphash24_20(k0: u64, k1: u64, w0: u64, w1: u64, last: u32) -> u64
     finalize(compress(s, last as u64 + 0x1400000000000000))
 }
 
-// The hash of a message of 32 bytes, four words.
+// The hash of a message of 32 bytes, four words. It isn't one function with the other: they differ in the last word too, and a loop over
+// an array of words would be no plainer than these two lines.
 pub fn siphash24_32(k0: u64, k1: u64, w0: u64, w1: u64, w2: u64, w3: u64) -> u64
     ensures { result ≡ sip_hash24 (key_of k0 k1) (le_bytes 8 w0 ++ (le_bytes 8 w1 ++ (le_bytes 8 w2 ++ le_bytes 8 w3))) }
 {

@@ -1,10 +1,9 @@
 -- What the answers of this crate mean. Assumes nothing.
-use Rattle.std.proofs.Math.Option.{Option, none, some}
+use Rattle.std.specs.Prelude.{Option, Some, None}
+use Rattle.std.proofs.Math.Option as math
 use Rattle.ledger.specs.declared.Ledger.{Ledger}
-use Rattle.snapshot.specs.declared.Found.{Found}
-use Rattle.snapshot.specs.declared.Found.TheVariants.{Nothing, Holds}
 
 -- the ledger that was found, if one was
-abbrev pub found_of : Found → Option Ledger
-found_of Nothing = none
-found_of (Holds l) = some l
+abbrev pub found_of : Option Ledger → math.Option Ledger
+found_of None = math.none
+found_of (Some l) = math.some l

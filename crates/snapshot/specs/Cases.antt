@@ -1,6 +1,6 @@
 -- Cases that pin the definitions of Snapshot.antt: ledgers that document 01's steps give, and two whose bytes all differ, against their bytes written out; bytes that are no snapshot, each by
 -- one thing alone; and lent bytes that are too few or too many. Assumes nothing.
-use Rattle.std.specs.Prelude.{ℕ, ◌≡◌, true, false, List, [], ◌∷◌, replicate}
+use Rattle.std.specs.Prelude.{ℕ, ◌≡◌, true, false, List, [], ◌∷◌, replicate, Some, None}
 use Rattle.std.proofs.Math.Option.{none, some}
 use Rattle.octets.specs.Numbers.{printed}
 use Rattle.ledger.specs.Cases.{learning, dropping, closed, whole, s_a, s_b}
@@ -10,12 +10,11 @@ use Rattle.ledger.specs.Run.{ledger_after}
 use Rattle.ledger.specs.declared.Ledger.{Ledger}
 use Rattle.snapshot.specs.Answers.{found_of}
 use Rattle.snapshot.specs.Snapshot.{snapshot_of, ledger_in, kept_in}
-use Rattle.snapshot.specs.declared.Found.TheVariants.{Nothing, Holds}
 
--- what the code's enum says, each of its cases
+-- what the code's answer says, each of its cases
 pub record NamesHold : Type 0 where
-  pub nothing : found_of Nothing ≡ none
-  pub holds : (l : Ledger) → found_of (Holds l) ≡ some l
+  pub nothing : found_of None ≡ none
+  pub holds : (l : Ledger) → found_of (Some l) ≡ some l
 
 -- ---- ledgers and their bytes
 

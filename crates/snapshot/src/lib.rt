@@ -3,11 +3,10 @@
 #![tactic(auto)]
 
 ghost use Rattle.std.specs.Prelude.{◌≡◌, true, ◌+◌, ◌≤◌, eqb, length, drop};
-ghost use Rattle.octets.specs.Numbers.{le_bytes};
 ghost use Rattle.octets.specs.Runs.{written};
-ghost use Rattle.secret.specs.Secret.{secret_of, secret_bytes};
+ghost use Rattle.secret.specs.Secret.{secret_of};
 ghost use Rattle.snapshot.specs.Answers.{found_of};
-ghost use Rattle.snapshot.specs.Snapshot.{size, head_of, front_of, stages_bytes, stages_of, number_at, is_snapshot, ledger_of, ledger_in, snapshot_of, kept_in};
+ghost use Rattle.snapshot.specs.Snapshot.{size, front_of, stages_bytes, stages_of, number_at, is_snapshot, ledger_of, ledger_in, snapshot_of, kept_in};
 
 use ledger::Ledger;
 use secret::Secret;
@@ -19,170 +18,90 @@ pub const SIZE: usize = 68;
 // The number of the form that they have.
 pub const VERSION: u8 = 1;
 
-// What some bytes are.
-#[derive(Clone, Copy)]
-pub enum Found {
-    // No snapshot: not SIZE bytes, of another form, or not as `write` has them.
-    Nothing,
-    Holds(Ledger),
-}
-
 // Whether some bytes are a snapshot.
-fn is_snapshot(s: &[u8]) -> bool
+#[tactic(auto, unfolding(crate::specs::Snapshot::is_snapshot))]
+fn is_snapshot(s: &[u8; SIZE]) -> bool
     ensures { result ≡ is_snapshot s.now }
 {
-    if s.len() != SIZE {
-        return false;
-    }
-    if s[0] != VERSION {
-        return false;
-    }
-    if 1 < s[1] {
-        return false;
-    }
-    if 1 < s[2] {
-        return false;
-    }
-    s[3] == 0
+    matches!(s, [VERSION, 0 | 1, 0 | 1, 0, ..])
 }
 
-// The number of four bytes from a place on, and that of eight.
-fn half_at(s: &[u8], at: usize) -> u32
-    requires { at + 4 ≤ length s.now }
-    ensures { result ≡ number_at 4 at s.now }
-{
-    octets::le32(s[at], s[at + 1], s[at + 2], s[at + 3])
-}
-
-fn word_at(s: &[u8], at: usize) -> u64
-    requires { at + 8 ≤ length s.now }
-    ensures { result ≡ number_at 8 at s.now }
-{
-    octets::le64(
-        s[at],
-        s[at + 1],
-        s[at + 2],
-        s[at + 3],
-        s[at + 4],
-        s[at + 5],
-        s[at + 6],
-        s[at + 7],
-    )
-}
-
-fn secret_at(s: &[u8], at: usize) -> Secret
-    requires { at + 16 ≤ length s.now }
-    ensures { result ≡ secret_of (drop at s.now) }
-{
-    Secret {
-        k0: word_at(s, at),
-        k1: word_at(s, at + 8),
-    }
-}
-
-fn stages_of(s: &[u8]) -> Stages
-    requires { length s.now ≡ 68 }
+#[tactic(auto, unfolding(crate::specs::Snapshot::stages_of))]
+fn stages_of(s: &[u8; SIZE]) -> Stages
     ensures { result ≡ stages_of s.now }
 {
     Stages {
-        members: half_at(s, 4),
-        learnt: half_at(s, 8),
-        switched: half_at(s, 12),
-        dropped: half_at(s, 16),
+        members: octets::le32(octets::bytes_at(s, 4)),
+        learnt: octets::le32(octets::bytes_at(s, 8)),
+        switched: octets::le32(octets::bytes_at(s, 12)),
+        dropped: octets::le32(octets::bytes_at(s, 16)),
     }
 }
 
-fn ledger_of(s: &[u8]) -> Ledger
-    requires { length s.now ≡ 68 }
+#[tactic(auto, unfolding(crate::specs::Snapshot::ledger_of))]
+fn ledger_of(s: &[u8; SIZE]) -> Ledger
     ensures { result ≡ ledger_of s.now }
 {
     Ledger {
         started: s[1] == 1,
         rolling: s[2] == 1,
-        current: secret_at(s, 36),
-        new: secret_at(s, 52),
+        current: Secret::read(&octets::bytes_at(s, 36)),
+        new: Secret::read(&octets::bytes_at(s, 52)),
         stages: stages_of(s),
-        last: word_at(s, 20),
-        last_switch: word_at(s, 28),
+        last: octets::word_at(s, 20),
+        last_switch: octets::word_at(s, 28),
     }
 }
 
-// The ledger that some bytes are.
-pub fn read(s: &[u8]) -> Found
+// The ledger that some bytes are; nothing if they are no snapshot: not SIZE bytes, of another form, or not as `write` has them.
+#[tactic(auto, unfolding(crate::specs::Snapshot::ledger_in, crate::specs::Snapshot::is_snapshot))]
+pub fn read(s: &[u8]) -> Option<Ledger>
     ensures { found_of result ≡ ledger_in s.now }
 {
-    if is_snapshot(s) {
-        return Found::Holds(ledger_of(s));
-    }
-    Found::Nothing
+    let s = <&[u8; SIZE]>::try_from(s).ok()?;
+    is_snapshot(s).then(|| ledger_of(s))
 }
 
-fn put_head(lent: &mut [u8], started: bool, rolling: bool)
-    ensures { lent.new ≡ written lent.old 0 (head_of started rolling) }
-{
-    let head = [VERSION, started as u8, rolling as u8, 0];
-    octets::put(lent, 0, &head);
-}
-
-fn put_half(lent: &mut [u8], at: usize, x: u32)
-    ensures { lent.new ≡ written lent.old at (le_bytes 4 x) }
-{
-    octets::put(lent, at, &octets::le32_bytes(x));
-}
-
-fn put_word(lent: &mut [u8], at: usize, x: u64)
-    ensures { lent.new ≡ written lent.old at (le_bytes 8 x) }
-{
-    octets::put(lent, at, &octets::le64_bytes(x));
-}
-
-fn put_secret(lent: &mut [u8], at: usize, secret: Secret)
-    ensures { lent.new ≡ written lent.old at (secret_bytes secret) }
-{
-    octets::put(lent, at, &secret.bytes());
-}
-
-fn put_stages(lent: &mut [u8], stages: Stages)
-    requires { length lent.old ≡ 68 }
+fn put_stages(lent: &mut [u8; SIZE], stages: Stages)
     ensures { lent.new ≡ written lent.old 4 (stages_bytes stages) }
 {
-    put_half(lent, 4, stages.members);
-    put_half(lent, 8, stages.learnt);
-    put_half(lent, 12, stages.switched);
-    put_half(lent, 16, stages.dropped);
+    octets::put(lent, 4, &octets::le32_bytes(stages.members));
+    octets::put(lent, 8, &octets::le32_bytes(stages.learnt));
+    octets::put(lent, 12, &octets::le32_bytes(stages.switched));
+    octets::put(lent, 16, &octets::le32_bytes(stages.dropped));
 }
 
 // All but the secrets.
-fn put_front(lent: &mut [u8], ledger: Ledger)
-    requires { length lent.old ≡ 68 }
+fn put_front(lent: &mut [u8; SIZE], ledger: Ledger)
     ensures { lent.new ≡ written lent.old 0 (front_of ledger) }
 {
-    let stages = ledger.stages;
-    put_head(lent, ledger.started, ledger.rolling);
-    put_stages(lent, stages);
-    put_word(lent, 20, ledger.last);
-    put_word(lent, 28, ledger.last_switch);
+    octets::put(
+        lent,
+        0,
+        &[VERSION, ledger.started as u8, ledger.rolling as u8, 0],
+    );
+    put_stages(lent, ledger.stages);
+    octets::put(lent, 20, &octets::le64_bytes(ledger.last));
+    octets::put(lent, 28, &octets::le64_bytes(ledger.last_switch));
 }
 
-fn put_all(lent: &mut [u8], ledger: Ledger)
-    requires { length lent.old ≡ 68 }
+fn put_all(lent: &mut [u8; SIZE], ledger: Ledger)
     ensures { lent.new ≡ snapshot_of ledger }
 {
-    let current = ledger.current;
-    let new = ledger.new;
     put_front(lent, ledger);
-    put_secret(lent, 36, current);
-    put_secret(lent, 52, new);
+    octets::put(lent, 36, &ledger.current.bytes());
+    octets::put(lent, 52, &ledger.new.bytes());
 }
 
 // Writes the snapshot of a ledger into bytes that are lent, and tells whether they are as many as it has. If they are not, nothing is
-// written.
+// written. A bool and no Result, since the promise is one equation of it and of the bytes.
+#[tactic(auto, unfolding(crate::specs::Snapshot::kept_in))]
 pub fn write(lent: &mut [u8], ledger: Ledger) -> bool
     ensures { (result ≡ eqb (length lent.old) size) × (lent.new ≡ kept_in lent.old ledger) }
 {
     if lent.len() != SIZE {
         return false;
     }
-    put_all(lent, ledger);
+    put_all(lent.first_chunk_mut().unwrap(), ledger);
     true
 }

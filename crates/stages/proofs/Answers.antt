@@ -1,14 +1,14 @@
--- What the functions' proofs cite, one law for each answer. Assumes nothing.
+-- What the functions' proofs cite, one law for each answer; `src` names them all as `cited`. Assumes nothing.
 use Prim.Native.Nat.{ℕ, ◌-◌, ◌*◌, ◌/◌, ◌%◌, ◌^◌, ◌≤◌, ◌<◌}
 use mathlib.Core.Path.{◌≡◌, refl, sym, ap, ◌∙◌}
-use mathlib.Core.Bool.{Bool, true, false, not, cond, ◌&&◌, ◌||◌, and-false, and_assoc, not-not}
+use mathlib.Core.Bool.{Bool, true, false, not, ◌&&◌, ◌||◌, and-false, and_assoc, not-not}
 use native.Mathlib.Nat.{lt_of_le_of_lt}
 use native.Mathlib.Omega.{arith}
 use borrow.Author.Tests.{lt-ltb, le-ltb, ne_eqb}
 use lib.Bits.{bit_and, bit_or, or_lt, and_le_l, and_mask}
 use lib.Count.{ones}
 use lib.Dec.{eqb}
-use lib.Pow.{pow_pos, shl_exact}
+use lib.Pow.{shl_exact}
 use Rattle.stages.proofs.BelowLaws.{any_same, count_same}
 use Rattle.stages.proofs.SetLaws.{in_none, in_both, in_either, in_others, in_past, any_in, ones_in}
 use Rattle.stages.proofs.StageLaws.{told, stage_3}
@@ -31,9 +31,6 @@ module _ (m : ℕ) (below : m < member_limit) where
   unfolding with_member
   put_in w = rw (shifted, lt-ltb m member_limit below)
 
-  pub some_first : 1 ≤ (1 * 2 ^ m) % 4294967296
-  some_first = rw shifted (pow_pos m)
-
   pub put_first : (1 * 2 ^ m) % 4294967296 - 1 ≡ numbers_below m
   unfolding numbers_below
   put_first = rw (shifted, lt-ltb m member_limit below)
@@ -50,15 +47,6 @@ module _ (m : ℕ) (past : member_limit ≤ m) where
   pub put_all : 4294967295 ≡ numbers_below m
   unfolding numbers_below
   put_all = rw (le-ltb m member_limit past)
-
--- ---- `stage`: a choice by a test that was told
-
-module _ (t test : Bool) (x a b : ℕ) (is : t ≡ test) where
-  pub cond_yes : t ≡ true → x ≡ a → x ≡ cond test a b
-  cond_yes yes' same = same ∙ rw (← is, yes')
-
-  pub cond_no : t ≡ false → x ≡ b → x ≡ cond test a b
-  cond_no no' same = same ∙ rw (← is, no')
 
 -- ---- `any_at`, `count_at`: a word is asked for the members that pass a test
 
@@ -121,3 +109,7 @@ module _ (s : Stages) where
       set_0 k e fit-l m h =
           let others = in_others member_limit (bit_or (bit_or s.learnt s.switched) s.dropped) m (or_lt 32 _ _ (or_lt 32 _ _ fit-l fit-s) fit-d) h in
           rw (e, in_both, others, in_either, in_either, (now m).0)
+
+-- ---- all of them
+
+pub ruleset cited = (read_in_lem, read_past, put_in, put_past, put_first, put_all, set_any, set_count, set_all, set_0, set_1, set_2, set_3, set_past)

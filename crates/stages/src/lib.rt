@@ -1,12 +1,12 @@
 // Who the members of a fleet are, and how far each one is in the rollover that is open. The only crate that knows how stages are kept:
 // sets of member numbers, each a word with a bit for each number.
-#![tactic(auto)]
+#![tactic(auto, using(crate::proofs::Answers::cited))]
 
 ghost use Rattle.std.specs.Prelude.{◌≡◌, ◌&&◌, eqb};
 ghost use Rattle.stages.specs.Sets.{is_in, with_member, numbers_below, SetOf};
 ghost use Rattle.stages.specs.Stages.{is_present, stage_of, any_at, all_dropped, count_at, no_stages, first_stages, reset_stages, learnt_by, switched_by, dropped_by};
 
-#[derive(Clone, Copy)]
+#[derive(Clone, Copy, Debug, PartialEq, Eq)]
 pub struct Stages {
     // The members of the fleet.
     pub members: u32,
@@ -38,9 +38,7 @@ impl Stages {
     {
         Stages {
             members: below(count),
-            learnt: 0,
-            switched: 0,
-            dropped: 0,
+            ..Stages::none()
         }
     }
 
@@ -50,9 +48,7 @@ impl Stages {
     {
         Stages {
             members: self.members,
-            learnt: 0,
-            switched: 0,
-            dropped: 0,
+            ..Stages::none()
         }
     }
 
@@ -63,7 +59,8 @@ impl Stages {
         is_in(self.members, member)
     }
 
-    // The stage of a member, 0 to 3.
+    // The stage of a member, 0 to 3. Stages are numbers and no enum: the two questions below promise an answer for every u8, and the
+    // ledger's table of secrets takes what this gives.
     pub fn stage(self, member: u8) -> u8
         ensures { result ≡ stage_of self member }
     {
@@ -97,14 +94,13 @@ impl Stages {
         self.members & !self.dropped == 0
     }
 
+    // Three methods and not one: each sets another field, and says so in less than a choice of the field would take.
     pub fn learn(self, member: u8) -> Stages
         ensures { result ≡ learnt_by self member }
     {
         Stages {
-            members: self.members,
             learnt: with(self.learnt, member),
-            switched: self.switched,
-            dropped: self.dropped,
+            ..self
         }
     }
 
@@ -112,10 +108,8 @@ impl Stages {
         ensures { result ≡ switched_by self member }
     {
         Stages {
-            members: self.members,
-            learnt: self.learnt,
             switched: with(self.switched, member),
-            dropped: self.dropped,
+            ..self
         }
     }
 
@@ -123,10 +117,8 @@ impl Stages {
         ensures { result ≡ dropped_by self member }
     {
         Stages {
-            members: self.members,
-            learnt: self.learnt,
-            switched: self.switched,
             dropped: with(self.dropped, member),
+            ..self
         }
     }
 

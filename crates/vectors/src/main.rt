@@ -25,93 +25,41 @@ mod cookies;
 
 use lines::{fields, hex, output, reader, text};
 use std::io;
-use std::io::{Read, Write};
+use std::io::Write;
 
-// What a line asks for.
-#[derive(Clone, Copy)]
-enum Verb {
-    Comment,
-    Hash,
-    Judge,
-    Fresh,
-    Kept,
-    Body,
-    Unknown,
+// The line, and the bytes that answer it.
+fn say_bytes(out: &mut impl Write, line: &[u8], bytes: &[u8]) -> io::Result<()> {
+    out.write_all(line)?;
+    output::say_last(out, bytes)
 }
 
 // `siphash24 KEY MESSAGE`
-fn hash_line(out: &mut impl Write, line: &[u8], number: u64, bytes: &mut [u8]) -> io::Result<()> {
-    let key = fields::secret(text::field(line, 1));
-    let message = hex::decode(text::field(line, 2), bytes);
-    if !(key.ok & message.ok & (text::fields(line) == 3)) {
-        return output::bad_line(out, number);
-    }
-    output::say(out, line)?;
-    let n = message.count;
-    let secret = key.secret;
-    output::say_last(out, &siphash::siphash24_bytes(secret, &bytes[0..n]))
+fn hash_line(out: &mut impl Write, line: &[u8], bytes: &mut [u8]) -> Option<io::Result<()>> {
+    let key = fields::secret(text::field(line, 1))?;
+    let message = hex::decode(text::field(line, 2), bytes)?;
+    let hash = siphash::siphash24_bytes(key, message);
+    Some(say_bytes(out, line, &hash))
 }
 
-fn verb_of(line: &[u8]) -> Verb {
-    if text::is_comment(line) {
-        return Verb::Comment;
+// Answers one line, if it is well written.
+fn run_line(out: &mut impl Write, line: &[u8], bytes: &mut [u8]) -> Option<io::Result<()>> {
+    match (text::field(line, 0), text::fields(line)) {
+        (b"siphash24", 3) => hash_line(out, line, bytes),
+        (b"judge", 8) => cookies::judge_line(out, line, bytes),
+        (b"fresh", 6) => cookies::fresh_line(out, line, bytes),
+        (b"kept", 3) => cookies::kept_line(out, line, bytes),
+        (b"body", 2) => cookies::body_line(out, line, bytes),
+        _ => None,
     }
-    let verb = text::field(line, 0);
-    if octets::same(verb, b"siphash24") {
-        return Verb::Hash;
-    }
-    if octets::same(verb, b"judge") {
-        return Verb::Judge;
-    }
-    if octets::same(verb, b"fresh") {
-        return Verb::Fresh;
-    }
-    if octets::same(verb, b"kept") {
-        return Verb::Kept;
-    }
-    if octets::same(verb, b"body") {
-        return Verb::Body;
-    }
-    Verb::Unknown
-}
-
-// Answers one line.
-fn run_line(out: &mut impl Write, line: &[u8], number: u64, bytes: &mut [u8]) -> io::Result<()> {
-    match verb_of(line) {
-        Verb::Comment => output::say_line(out, line),
-        Verb::Hash => hash_line(out, line, number, bytes),
-        Verb::Judge => cookies::judge_line(out, line, number, bytes),
-        Verb::Fresh => cookies::fresh_line(out, line, number, bytes),
-        Verb::Kept => cookies::kept_line(out, line, number, bytes),
-        Verb::Body => cookies::body_line(out, line, number, bytes),
-        Verb::Unknown => output::bad_line(out, number),
-    }
-}
-
-// A proved loop has to end, and nothing says that the input does: it counts down from a number that no run uses up.
-fn run(
-    input: &mut impl Read,
-    out: &mut impl Write,
-    buffer: &mut [u8],
-    bytes: &mut [u8],
-) -> io::Result<()> {
-    let mut cursor = reader::start();
-    let mut turns = u64::MAX;
-    while 0 < turns {
-        cursor = reader::next(input, out, buffer, cursor)?;
-        if !cursor.is_line {
-            return Ok(());
-        }
-        let start = cursor.start;
-        let end = cursor.end;
-        run_line(out, &buffer[start..end], cursor.number, bytes)?;
-        turns -= 1;
-    }
-    Ok(())
 }
 
 fn main(rt: HostRuntime) -> io::Result<()> {
-    let mut buffer = [0u8; 262144];
-    let mut bytes = [0u8; 131072];
-    run(&mut rt.stdin(), &mut rt.stdout(), &mut buffer, &mut bytes)
+    let mut buffer = [0; 262144];
+    let mut bytes = [0; 131072];
+    reader::each(
+        &mut rt.stdin(),
+        &mut rt.stdout(),
+        &mut buffer,
+        |out, line| run_line(out, line, &mut bytes),
+    )
 }

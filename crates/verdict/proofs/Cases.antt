@@ -5,7 +5,8 @@ use Rattle.octets.specs.Numbers.{be_bytes, printed}
 use Rattle.octets.specs.Runs.{same_run}
 use Rattle.octets.proofs.RunLaws.{same_other}
 use Rattle.verdict.proofs.ReplyLaws.{and_false}
-use Rattle.verdict.specs.Cases.{AgesHold, RepliesHold, NamesHold}
+use Rattle.verdict.specs.Cases.{AgesHold, RepliesHold, NamesHold, WordsHold}
+use Rattle.std.specs.Fmt.{digits}
 use Rattle.verdict.specs.Findings.{is_timely, by_time}
 use Rattle.verdict.specs.ReplyTable.{reserved_zero, is_young}
 use Rattle.verdict.specs.Serial.{age}
@@ -72,4 +73,27 @@ names_hold =
       served = λ o. refl;
       bad_cookie = λ o. refl;
       truncated = λ o. refl;
+    }
+
+pub words_hold : WordsHold
+unfolding digits
+words_hold =
+    record {
+      ignored_words = refl;
+      absent_words = refl;
+      client_words = refl;
+      method_words = refl;
+      hash_words = refl;
+      time_words = refl;
+      good_144 = refl;
+      good_0 = refl;
+      good_3600 = refl;
+      good_ahead = refl;
+      good_least = refl;
+      good_most = refl;
+      serve_none = refl;
+      serve_fresh = refl;
+      serve_kept = refl;
+      bad_fresh = refl;
+      truncate_none = refl;
     }

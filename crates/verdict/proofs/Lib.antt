@@ -1,5 +1,3 @@
 pub mod Cases
 pub mod ReplyLaws
 pub mod SerialLaws
-pub mod SignedLaws
-pub mod TimeLaws

@@ -1,7 +1,6 @@
 -- Ages in serial arithmetic. Assumes nothing.
-use Rattle.std.proofs.Common.{◌≡◌, ℕ, zero, suc, ◌+◌, ◌-◌, ◌%◌, ◌^◌, ◌<◌, ◌≤◌, Bool, true, false, ltb, ℤ, pos, negsuc, ◌-ℤ◌, sym, refl, ap, ◌∙◌, arith, w32, Fits, SFits, to_z, of_z, ltb-false, ltb-true, le-ltb, lt-ltb}
+use Rattle.std.proofs.Common.{◌≡◌, ℕ, ◌+◌, ◌-◌, ◌%◌, ◌^◌, ◌<◌, ◌≤◌, Bool, true, false, ltb, ℤ, pos, negsuc, refl, ap, ◌∙◌, arith, ltb-false, ltb-true, le-ltb, lt-ltb}
 use lib.IntN.{sub_ℕ}
-use mir.ValLaws.{to_z_pos, to_z-of_z}
 use Rattle.verdict.specs.Claims.{Apart, AgeIsSerial}
 use Rattle.verdict.specs.Serial.{difference, age}
 
@@ -51,28 +50,3 @@ age_of_times made checked early late = apart_age (checked % 2 ^ 32) (made % 2 ^ 
     by : (b : Bool) → ltb checked made ≡ b → Apart (checked % 2 ^ 32) (made % 2 ^ 32) (sub_ℕ checked made)
     by true q = let before' : checked < made = ltb-true checked made q in rw q (omega arith, omega arith)
     by false q = let after : made ≤ checked = ltb-false checked made q in rw q (omega arith, omega arith)
-
--- ---- what the code computes
-
-minus_one : (n : ℕ) → negsuc 0 -ℤ pos n ≡ negsuc n
-minus_one zero = refl
-minus_one (suc n) = ap (λ (k : ℕ). negsuc (suc k)) (omega arith)
-
--- d is what the wrapping subtraction gives
-module _ (clock timestamp d : ℕ) (small : Fits w32 clock) (small' : Fits w32 timestamp) (ok : Fits w32 d) (wraps : (d + timestamp) % 2 ^ 32 ≡ clock) where
-  is_difference : difference clock timestamp ≡ d
-  is_difference = omega (arith, small.fits, small'.fits, ok.fits)
-
-  pub age_after : d < 2 ^ 31 → to_z w32 d ≡ age clock timestamp
-  age_after low = to_z_pos w32 d low ∙ sym (age_low clock timestamp d is_difference low)
-
-  -- from 2 ^ 31 on it is -1 less the rest to 2 ^ 32 - 1
-  module _ (high : 2 ^ 31 ≤ d) where
-    minus : negsuc 0 -ℤ to_z w32 (4294967295 - d) ≡ negsuc (2 ^ 32 - 1 - d)
-    minus = let low : 4294967295 - d < 2 ^ 31 = omega arith in rw (to_z_pos w32 (4294967295 - d) low) (minus_one (4294967295 - d))
-
-    pub age_fits : SFits w32 (negsuc 0 -ℤ to_z w32 (4294967295 - d))
-    age_fits = rw minus (record { sfits = omega arith })
-
-    pub age_before : to_z w32 (of_z w32 (negsuc 0 -ℤ to_z w32 (4294967295 - d))) ≡ age clock timestamp
-    age_before = to_z-of_z w32 _ age_fits ∙ minus ∙ sym (age_high clock timestamp d is_difference high)

@@ -1,12 +1,13 @@
 -- Cases that pin the definitions: ages, each cell of the reply table, and what each case of the enums says. The cookie is P1's; the hashes of those with
 -- reserved bytes set are what OpenSSL's SIPHASH gives. Assumes nothing.
-use Rattle.std.specs.Prelude.{◌≡◌, ℕ, suc, ◌+◌, ◌^◌, ◌≤◌, true, false, List, [], ◌∷◌, take, drop, ℤ, pos, negsuc, ◌≢◌}
+use Rattle.std.specs.Prelude.{◌≡◌, ℕ, suc, ◌+◌, ◌-◌, ◌^◌, ◌≤◌, true, false, List, [], ◌∷◌, take, drop, ℤ, pos, negsuc, ◌≢◌, codes}
 use Rattle.octets.specs.Numbers.{printed}
 use Rattle.verdict.specs.Findings.{Finding, finding, by_time}
 use Rattle.verdict.specs.Findings.Finding.{ignored, absent, clientOnly, bad, good}
 use Rattle.verdict.specs.ReplyTable.{is_disabled, ◌carrying◌, owed_of, reply_owed}
 use Rattle.verdict.specs.ReplyTable.Sent.{serve, truncate, error}
 use Rattle.verdict.specs.Serial.{age}
+use Rattle.verdict.specs.Words.{verdict_words, reply_words}
 use Rattle.verdict.specs.declared.Action.TheVariants.{Serve, BadCookie, Truncate}
 use Rattle.verdict.specs.declared.Carried.{Carried}
 use Rattle.verdict.specs.declared.Carried.TheVariants.{Nothing, Fresh, Kept}
@@ -78,3 +79,25 @@ pub record NamesHold : Type 0 where
   pub served : (o : Carried) → owed_of (record { action = Serve; option = o }) ≡ serve carrying o
   pub bad_cookie : (o : Carried) → owed_of (record { action = BadCookie; option = o }) ≡ error 23 carrying o
   pub truncated : (o : Carried) → owed_of (record { action = Truncate; option = o }) ≡ truncate carrying o
+
+-- what is printed, letter by letter
+pub record WordsHold : Type 0 where
+  pub ignored_words : verdict_words Ignored ≡ codes "ignored"
+  pub absent_words : verdict_words Absent ≡ codes "absent"
+  pub client_words : verdict_words ClientOnly ≡ codes "client-only"
+  pub method_words : verdict_words (Bad Method) ≡ codes "bad method"
+  pub hash_words : verdict_words (Bad Hash) ≡ codes "bad hash"
+  pub time_words : verdict_words (Bad Time) ≡ codes "bad time"
+  -- ages: of P5, of the bounds of a good one, none, and the least and the greatest that 32 bits hold
+  pub good_144 : verdict_words (Good (pos 144) Other) ≡ codes "good 144 other"
+  pub good_0 : verdict_words (Good (pos 0) Generating) ≡ codes "good 0 generating"
+  pub good_3600 : verdict_words (Good (pos 3600) Generating) ≡ codes "good 3600 generating"
+  pub good_ahead : verdict_words (Good (negsuc 299) Generating) ≡ codes "good -300 generating"
+  pub good_least : verdict_words (Good (negsuc (2 ^ 31 - 1)) Other) ≡ codes "good -2147483648 other"
+  pub good_most : verdict_words (Good (pos (2 ^ 31 - 1)) Other) ≡ codes "good 2147483647 other"
+  -- replies
+  pub serve_none : reply_words (record { action = Serve; option = Nothing }) ≡ codes "serve none"
+  pub serve_fresh : reply_words (record { action = Serve; option = Fresh }) ≡ codes "serve fresh"
+  pub serve_kept : reply_words (record { action = Serve; option = Kept }) ≡ codes "serve kept"
+  pub bad_fresh : reply_words (record { action = BadCookie; option = Fresh }) ≡ codes "badcookie fresh"
+  pub truncate_none : reply_words (record { action = Truncate; option = Nothing }) ≡ codes "truncate none"

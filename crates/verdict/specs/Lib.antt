@@ -3,3 +3,4 @@ pub mod Claims
 pub mod Findings
 pub mod ReplyTable
 pub mod Serial
+pub mod Words

@@ -3,12 +3,13 @@
 
 mod reply_table;
 mod serial;
+mod words;
 
 pub use reply_table::{is_disabled, reply_for};
 pub use serial::{by_time, serial_age};
 
 // How a member treats cookies.
-#[derive(Clone, Copy)]
+#[derive(Clone, Copy, Debug, PartialEq, Eq)]
 pub enum Mode {
     Disabled,
     Enabled,
@@ -16,7 +17,7 @@ pub enum Mode {
 }
 
 // Why a server cookie is bad: the first step that fails.
-#[derive(Clone, Copy)]
+#[derive(Clone, Copy, Debug, PartialEq, Eq)]
 pub enum Reason {
     Method,
     Hash,
@@ -24,13 +25,13 @@ pub enum Reason {
 }
 
 // Which of the secrets that are held gave a good cookie its hash.
-#[derive(Clone, Copy)]
+#[derive(Clone, Copy, Debug, PartialEq, Eq)]
 pub enum Which {
     Generating,
     Other,
 }
 
-#[derive(Clone, Copy)]
+#[derive(Clone, Copy, Debug, PartialEq, Eq)]
 pub enum Verdict {
     // In mode Disabled.
     Ignored,
@@ -43,7 +44,7 @@ pub enum Verdict {
 }
 
 // What the reply is.
-#[derive(Clone, Copy)]
+#[derive(Clone, Copy, Debug, PartialEq, Eq)]
 pub enum Action {
     Serve,
     BadCookie,
@@ -51,14 +52,14 @@ pub enum Action {
 }
 
 // What COOKIE option the reply carries.
-#[derive(Clone, Copy)]
+#[derive(Clone, Copy, Debug, PartialEq, Eq)]
 pub enum Carried {
     Nothing,
     Fresh,
     Kept,
 }
 
-#[derive(Clone, Copy)]
+#[derive(Clone, Copy, Debug, PartialEq, Eq)]
 pub struct Reply {
     pub action: Action,
     pub option: Carried,

@@ -1,67 +1,60 @@
 // The reply that a verdict owes.
 ghost use Rattle.std.specs.Prelude.{◌≡◌, if◌then◌else◌, nat_eq};
 ghost use Rattle.verdict.specs.Findings.{finding};
-ghost use Rattle.verdict.specs.ReplyTable.{is_disabled, is_enforced, serve, error, sent_of, owed_of, reply_owed, kept_or_fresh, enabled_reply, enforced_reply};
+ghost use Rattle.verdict.specs.ReplyTable.{is_disabled, is_enforced, is_young, reserved_zero, serve, error, sent_of, owed_of, reply_owed, kept_or_fresh, enabled_reply, enforced_reply};
 
 use crate::{Action, Carried, Mode, Reply, Verdict, Which};
 
-// Whether cookies are ignored.
+// Whether cookies are ignored: a name for the test, which cookie, server and fleet ask too.
 pub fn is_disabled(mode: Mode) -> bool
     ensures { result ≡ is_disabled mode }
 {
-    match mode {
-        Mode::Disabled => true,
-        Mode::Enabled => false,
-        Mode::Enforced => false,
-    }
+    mode == Mode::Disabled
+}
+
+// Whether a good cookie's age is one to keep it at.
+#[tactic(auto, unfolding(crate::specs::ReplyTable::is_young))]
+fn is_young(age: i32) -> bool
+    ensures { result ≡ is_young age }
+{
+    (0..=1800).contains(&age)
+}
+
+// Whether the reserved bytes of a COOKIE body are there and zero.
+#[tactic(auto, using(crate::proofs::ReplyLaws::reserved_there, crate::proofs::ReplyLaws::reserved_short))]
+fn has_zero_reserved(body: &[u8]) -> bool
+    ensures { result ≡ reserved_zero body.now }
+{
+    12 <= body.len() && &body[9..12] == b"\x00\x00\x00".as_slice()
 }
 
 // Whether a good cookie is sent again or a fresh one.
-#[tactic(auto, using(crate::proofs::ReplyLaws::fresh_old))]
 fn kept_or_fresh(age: i32, secret: Which, body: &[u8]) -> Carried
     ensures { result ≡ kept_or_fresh age secret body.now }
 {
-    match secret {
-        Which::Generating => {}
-        Which::Other => return Carried::Fresh,
+    if secret == Which::Generating && is_young(age) && has_zero_reserved(body) {
+        Carried::Kept
+    } else {
+        Carried::Fresh
     }
-    if age < 0 {
-        return Carried::Fresh;
-    }
-    if 1800 < age {
-        return Carried::Fresh;
-    }
-    if body.len() < 12 {
-        return Carried::Fresh;
-    }
-    if !octets::same(&body[9..12], b"\x00\x00\x00") {
-        return Carried::Fresh;
-    }
-    Carried::Kept
 }
 
 // Whether the mode is Enforced.
 fn is_enforced(mode: Mode) -> bool
     ensures { result ≡ is_enforced mode }
 {
-    match mode {
-        Mode::Disabled => false,
-        Mode::Enabled => false,
-        Mode::Enforced => true,
-    }
+    mode == Mode::Enforced
 }
 
 // A client cookie alone: it is served where there is no question, too.
 fn client_action(enforced: bool, qdcount: u16) -> Action
     ensures { sent_of result ≡ (if enforced then (if nat_eq qdcount 0 then serve else error 23) else serve) }
 {
-    if !enforced {
-        return Action::Serve;
+    if enforced && qdcount != 0 {
+        Action::BadCookie
+    } else {
+        Action::Serve
     }
-    if qdcount == 0 {
-        return Action::Serve;
-    }
-    Action::BadCookie
 }
 
 // Both columns of the table outside mode Disabled. The verdict is asked before the mode: the compiler then goes on from each place that
@@ -69,41 +62,15 @@ fn client_action(enforced: bool, qdcount: u16) -> Action
 fn outside_disabled(enforced: bool, qdcount: u16, verdict: Verdict, body: &[u8]) -> Reply
     ensures { owed_of result ≡ (if enforced then enforced_reply qdcount (finding verdict) body.now else enabled_reply (finding verdict) body.now) }
 {
-    match verdict {
-        Verdict::Ignored => Reply {
-            action: Action::Serve,
-            option: Carried::Nothing,
-        },
-        Verdict::Absent => {
-            let action = if enforced {
-                Action::Truncate
-            } else {
-                Action::Serve
-            };
-            Reply {
-                action,
-                option: Carried::Nothing,
-            }
-        }
-        Verdict::ClientOnly => {
-            let action = client_action(enforced, qdcount);
-            Reply {
-                action,
-                option: Carried::Fresh,
-            }
-        }
-        Verdict::Bad(_) => Reply {
-            action: Action::BadCookie,
-            option: Carried::Fresh,
-        },
-        Verdict::Good { age, secret } => {
-            let option = kept_or_fresh(age, secret, body);
-            Reply {
-                action: Action::Serve,
-                option,
-            }
-        }
-    }
+    let (action, option) = match verdict {
+        Verdict::Ignored => (Action::Serve, Carried::Nothing),
+        Verdict::Absent if enforced => (Action::Truncate, Carried::Nothing),
+        Verdict::Absent => (Action::Serve, Carried::Nothing),
+        Verdict::ClientOnly => (client_action(enforced, qdcount), Carried::Fresh),
+        Verdict::Bad(_) => (Action::BadCookie, Carried::Fresh),
+        Verdict::Good { age, secret } => (Action::Serve, kept_or_fresh(age, secret, body)),
+    };
+    Reply { action, option }
 }
 
 // The reply owed to a request, of its QDCOUNT, the verdict and the COOKIE body that was judged, which is empty where there is none.

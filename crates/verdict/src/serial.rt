@@ -6,26 +6,21 @@ ghost use Rattle.verdict.specs.Serial.{age};
 use crate::{Reason, Verdict, Which};
 
 // The age of a timestamp, in seconds.
+#[tactic(auto, unfolding(crate::specs::Serial::age))]
 pub fn serial_age(clock: u32, timestamp: u32) -> i32
     ensures { result ≡ age clock timestamp }
 {
-    let d = std::num::wrapping_sub_u32(clock, timestamp);
-    if d < 0x80000000 {
-        return d as i32;
-    }
-    -1 - (u32::MAX - d) as i32
+    clock.wrapping_sub(timestamp).cast_signed()
 }
 
 // The verdict on a cookie whose hash is right under a secret: its age decides.
-#[tactic(auto, using(crate::proofs::TimeLaws::too_old))]
+#[tactic(auto, unfolding(crate::specs::Findings::is_timely, crate::specs::Findings::by_time))]
 pub fn by_time(age: i32, secret: Which) -> Verdict
     ensures { finding result ≡ by_time age secret }
 {
-    if age < -300 {
-        return Verdict::Bad(Reason::Time);
+    if (-300..=3600).contains(&age) {
+        Verdict::Good { age, secret }
+    } else {
+        Verdict::Bad(Reason::Time)
     }
-    if 3600 < age {
-        return Verdict::Bad(Reason::Time);
-    }
-    Verdict::Good { age, secret }
 }

@@ -3,8 +3,8 @@
 use Rattle.std.proofs.Common.{◌-◌, ◌≤◌, length, ◌≡◌}
 use Rattle.list_input.proofs.fill.Given as goal
 
-abbrev pub invariant-loop-have : goal.invariant-loop-have
-invariant-loop-have g l = (l.have ≤ length l.block) × (length l.block ≡ length l.initial.block)
+abbrev pub invariant-loop-count : goal.invariant-loop-count
+invariant-loop-count g l = (l.count ≤ length l.block) × (length l.block ≡ length l.initial.block)
 
-abbrev pub decreases-loop-have : goal.decreases-loop-have
-decreases-loop-have g l = length l.initial.block - l.have
+abbrev pub decreases-loop-count : goal.decreases-loop-count
+decreases-loop-count g l = length l.initial.block - l.count

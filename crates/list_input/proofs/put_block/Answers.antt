@@ -3,8 +3,8 @@ use Rattle.std.proofs.Common.{rules}
 use Rattle.list_input.proofs.TextLaws.{put_lines, put_tail}
 use Rattle.list_input.proofs.put_block.Goals as goal
 
-pub returns-then-left-eq0 : goal.returns-then-left-eq0
-returns-then-left-eq0 c = search (rules, put_lines)
+pub returns-in-0 : goal.returns-in-0
+returns-in-0 c = search (rules, put_lines)
 
-pub returns : goal.returns
-returns c = search (rules, put_tail)
+pub returns-in_default : goal.returns-in_default
+returns-in_default c = search (rules, put_tail)

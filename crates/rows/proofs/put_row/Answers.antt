@@ -1,13 +1,7 @@
 -- `rows::put_row` meets its contract. The numbers one after the other are the line, and the longest has room. Assumes nothing.
-use Rattle.rows.proofs.RowLaws.{no_room, no_room_there, row_put}
+use Rattle.rows.proofs.RowLaws.{row_put}
 use borrow.Author.Rules.{rules}
 use Rattle.rows.proofs.put_row.Goals as goal
-
-pub returns-then-buffer-lt-LONGEST : goal.returns-then-buffer-lt-LONGEST
-returns-then-buffer-lt-LONGEST c = search (rules, no_room)
-
-pub returns-then-buffer-at : goal.returns-then-buffer-at
-returns-then-buffer-at c = search (rules, no_room_there)
 
 pub returns : goal.returns
 returns c = search (rules, row_put)

@@ -1,5 +1,5 @@
 -- `snapshot::put_all` meets its contract. Assumes nothing.
-use borrow.Author.Rules.{rules}
+use Rattle.std.proofs.Common.{rules}
 use Rattle.snapshot.proofs.WriteLaws.{snapshot_put}
 use Rattle.snapshot.proofs.put_all.Goals as goal
 

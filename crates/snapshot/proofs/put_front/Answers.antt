@@ -1,5 +1,5 @@
 -- `snapshot::put_front` meets its contract. Assumes nothing.
-use borrow.Author.Rules.{rules}
+use Rattle.std.proofs.Common.{rules}
 use Rattle.snapshot.proofs.WriteLaws.{front_put}
 use Rattle.snapshot.proofs.put_front.Goals as goal
 

@@ -1,5 +1,5 @@
 -- `snapshot::put_stages` meets its contract. Assumes nothing.
-use borrow.Author.Rules.{rules}
+use Rattle.std.proofs.Common.{rules}
 use Rattle.snapshot.proofs.WriteLaws.{stages_put}
 use Rattle.snapshot.proofs.put_stages.Goals as goal
 

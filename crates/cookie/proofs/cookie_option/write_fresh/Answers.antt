@@ -1,17 +1,21 @@
--- `cookie::cookie_option::write_fresh` meets its contract. The words are the client cookie, the front and the hash. Assumes nothing.
-use Rattle.cookie.proofs.OptionLaws.{fresh_no_room, fresh_no_address, fresh_done}
-use Rattle.cookie.proofs.ServerLaws.{is_address_lem}
-use Rattle.std.proofs.Common.{ap, not, rules}
+-- `cookie::cookie_option::write_fresh` meets its contract. Assumes nothing.
+use Rattle.std.proofs.Common.{◌≡◌, false, ap, sym, ◌∙◌, option_map, rules}
+use Rattle.cookie.proofs.MessageLaws.{not_read, is_read}
+use Rattle.cookie.proofs.OptionLaws.{fresh_no_room, fresh_no_address}
+use Rattle.cookie.specs.Hashed.{address_bytes}
+use Rattle.cookie.specs.CookieOption.{written_number}
+use Rattle.cookie.specs.ServerCookie.{is_address}
 use Rattle.cookie.proofs.cookie_option.write_fresh.Goals as goal
 
 pub returns-then-output-lt28 : goal.returns-then-output-lt28
 returns-then-output-lt28 c = fresh_no_room c.args.output.now c.args.address.now _ c.if-output-lt28.true
 
-pub returns-then-not-is_address : goal.returns-then-not-is_address
-returns-then-not-is_address c = fresh_no_address c.args.output.now c.args.address.now _ c.if-output-lt28.false _ c.is_address.ensures (ap not c.if-not-is_address.true)
-
-pub hash-requires : goal.hash-requires
-hash-requires c = search (rules, is_address_lem)
+pub returns-in_err-address : goal.returns-in_err-address
+returns-in_err-address c =
+    let no' : is_address c.args.address.now ≡ false = not_read _ (ap (option_map address_bytes) (sym c.in_err-address.ensures.ok_part) ∙ c.read.ensures) in
+    let said : written_number c.from_residual.result ≡ 2 = search rules in
+    let p = fresh_no_address c.args.output.now c.args.address.now _ c.if-output-lt28.false no' in
+    (said ∙ p.0, p.1)
 
 pub returns : goal.returns
-returns c = fresh_done c.args.output.now c.args.address.now c.args.client.now _ c.args.secret c.args.clock c.if-output-lt28.false (search rules) _ c.is_address.ensures (ap not c.if-not-is_address.false) _ _ _ c.word-w0.ensures c.front-w1.ensures c.hash.ensures c.write_words.ensures
+returns c = let e = is_read c.args.address.now (address_bytes c.in_ok-address.address) (search rules) in rw (← e.1) c.write_fresh_for.ensures

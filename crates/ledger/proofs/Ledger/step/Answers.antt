@@ -1,10 +1,7 @@
--- `ledger::Ledger::step` meets its contract. Assumes nothing.
-use borrow.Author.Rules.{rules}
-use Rattle.ledger.proofs.MoveLaws.{step_accepted, step_refused}
+-- `ledger::Ledger::step` meets its contract: a byte that is no kind is refused by row 1. Assumes nothing.
+use Rattle.std.proofs.Common.{rules}
+use Rattle.ledger.proofs.RuleLaws.{no_kind}
 use Rattle.ledger.proofs.Ledger.step.Goals as goal
 
-pub returns-in-Accepted : goal.returns-in-Accepted
-returns-in-Accepted c = search (rules, step_accepted)
-
-pub returns-in-Refused : goal.returns-in-Refused
-returns-in-Refused c = search (rules, step_refused)
+pub returns-in_err-kind : goal.returns-in_err-kind
+returns-in_err-kind c = search (rules, no_kind)

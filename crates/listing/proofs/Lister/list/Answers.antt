@@ -1,22 +1,15 @@
 -- `listing::Lister::list` meets its contract: after i records the lines of i records stand in the output. Assumes nothing.
 use Rattle.std.proofs.Common.{rules}
-use Rattle.listing.proofs.ListLaws.{whole_record, none_yet, one_more, as_long, all_listed, all_short}
+use Rattle.listing.proofs.ListLaws.{none_yet, one_more, all_listed}
 use Rattle.listing.proofs.Lister.list.Goals as goal
 
-pub loop-i-init : goal.loop-i-init
-loop-i-init c = (search rules, search rules, search (rules, none_yet))
+pub loop-record-init : goal.loop-record-init
+loop-record-init c = search (rules, none_yet)
 
-pub overflow_mul-i : goal.overflow_mul-i
-overflow_mul-i c = search (rules, whole_record)
-
-pub put_record-put-requires : goal.put_record-put-requires
-put_record-put-requires c = search (rules, whole_record)
-
-pub loop-i-preserved : goal.loop-i-preserved
-loop-i-preserved c = (search rules, search rules, search (rules, one_more))
-
-pub shape_of-output : goal.shape_of-output
-shape_of-output c = search (rules, as_long)
+pub loop-record-preserved : goal.loop-record-preserved
+loop-record-preserved c =
+    one_more _ _ _ _ _ _ _ _ _ _ _ _ c.as_chunks.ensures.front c.as_chunks.ensures.front_len c.min-records.ensures c.loop-record-test.true c.loop-record.invariant c.list_record-end.ensures
 
 pub returns : goal.returns
-returns c = (search (rules, all_listed), search (rules, all_short))
+returns c =
+    all_listed _ _ _ _ _ _ _ _ _ c.as_chunks.ensures.front c.as_chunks.ensures.front_len c.min-records.ensures c.loop-record.auto.record-index-end c.loop-record-test.false c.loop-record.invariant

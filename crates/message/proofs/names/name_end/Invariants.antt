@@ -5,8 +5,8 @@ use mathlib.Core.Path.{◌≡◌}
 use Rattle.message.specs.Name.{name_end}
 use Rattle.message.proofs.names.name_end.Given as goal
 
-abbrev pub invariant-loop-i : goal.invariant-loop-i
-invariant-loop-i l = name_end l.message l.i ≡ name_end l.message l.at
+abbrev pub invariant-loop-n : goal.invariant-loop-n
+invariant-loop-n l = name_end l.message l.i ≡ name_end l.message l.at
 
-abbrev pub decreases-loop-i : goal.decreases-loop-i
-decreases-loop-i l = length l.message - l.i
+abbrev pub decreases-loop-n : goal.decreases-loop-n
+decreases-loop-n l = length l.message - l.i

@@ -1,23 +1,20 @@
 -- `message::records::record_at` meets its contract. One law for each answer. Assumes nothing.
 use borrow.Author.Rules.{rules}
 use Rattle.message.proofs.NameLaws.{name_inside, name_fits}
-use Rattle.message.proofs.RecordLaws.{record_no_name, record_cut, record_past, record_whole}
+use Rattle.message.proofs.RecordLaws.{record_no_name, record_past, record_whole}
 use Rattle.message.proofs.records.record_at.Goals as goal
 
-pub returns-in_default : goal.returns-in_default
-returns-in_default c = search (rules, record_no_name)
+pub returns-in_err-end : goal.returns-in_err-end
+returns-in_err-end c = search (rules, record_no_name, c.in_err-end.ensures)
 
-pub overflow_add-start : goal.overflow_add-start
-overflow_add-start c = search (rules, name_fits, c.well_formed.0.1)
+pub overflow_add-end : goal.overflow_add-end
+overflow_add-end c = search (rules, name_fits, c.in_ok-end.ensures, c.well_formed.0.1)
 
-pub returns-then-message-start : goal.returns-then-message-start
-returns-then-message-start c = search (rules, record_cut)
-
-pub returns-then-message-stop : goal.returns-then-message-stop
-returns-then-message-stop c = search (rules, record_past)
+pub returns-in_err-stop : goal.returns-in_err-stop
+returns-in_err-stop c = search (rules, record_past, c.in_ok-end.ensures, c.in_err-stop.ensures)
 
 pub bounds-message-at : goal.bounds-message-at
-bounds-message-at c = search (rules, name_inside)
+bounds-message-at c = search (rules, name_inside, c.in_ok-end.ensures)
 
 pub returns : goal.returns
-returns c = search (rules, record_whole)
+returns c = search (rules, record_whole, c.in_ok-end.ensures, c.in_ok-stop.ensures)

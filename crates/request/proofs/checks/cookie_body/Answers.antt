@@ -1,22 +1,22 @@
 -- `request::checks::cookie_body` meets its contract. What is found lies within the message. Assumes nothing.
 use borrow.Author.Rules.{rules}
-use Rattle.request.proofs.BodyLaws.{body_ordered, body_within, body_refused, body_none, body_at_lem}
+use Rattle.request.proofs.BodyLaws.{body_ordered, body_within, body_is}
 use Rattle.request.proofs.checks.cookie_body.Goals as goal
 
-pub slice_bounds-result-count-in-CookieAt : goal.slice_bounds-result-count-in-CookieAt
-slice_bounds-result-count-in-CookieAt c = search (rules, body_ordered)
+pub returns-in_default : goal.returns-in_default
+returns-in_default c = body_is _ _ c.in_default.ensures
 
-pub slice_bounds-result-start-in-CookieAt : goal.slice_bounds-result-start-in-CookieAt
-slice_bounds-result-start-in-CookieAt c = search (rules, body_ordered)
+pub returns-in-None : goal.returns-in-None
+returns-in-None c = let read = rw c.in-None.is at c.in-Ok.ensures in body_is _ _ read
 
-pub slice_bounds-result-end-in-CookieAt : goal.slice_bounds-result-end-in-CookieAt
-slice_bounds-result-end-in-CookieAt c = search (rules, body_within)
+pub slice_bounds-result-count : goal.slice_bounds-result-count
+slice_bounds-result-count c = let read = rw c.in-Some.is at c.in-Ok.ensures in search (rules, body_ordered, read)
 
-pub returns-in-Refused : goal.returns-in-Refused
-returns-in-Refused c = search (rules, body_refused)
+pub slice_bounds-result-start : goal.slice_bounds-result-start
+slice_bounds-result-start c = let read = rw c.in-Some.is at c.in-Ok.ensures in search (rules, body_ordered, read)
 
-pub returns-in-NoCookie : goal.returns-in-NoCookie
-returns-in-NoCookie c = search (rules, body_none)
+pub slice_bounds-result-end-in-Some : goal.slice_bounds-result-end-in-Some
+slice_bounds-result-end-in-Some c = let read = rw c.in-Some.is at c.in-Ok.ensures in search (rules, body_within, read)
 
-pub returns-in-CookieAt : goal.returns-in-CookieAt
-returns-in-CookieAt c = search (rules, body_at_lem)
+pub returns-in-Some : goal.returns-in-Some
+returns-in-Some c = let read = rw c.in-Some.is at c.in-Ok.ensures in body_is _ _ read

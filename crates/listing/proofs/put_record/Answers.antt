@@ -1,7 +1,0 @@
--- `listing::put_record` meets its contract. Assumes nothing.
-use Rattle.std.proofs.Common.{rules}
-use Rattle.listing.proofs.ListLaws.{put_is}
-use Rattle.listing.proofs.put_record.Goals as goal
-
-pub returns : goal.returns
-returns c = search (rules, put_is)

@@ -1,7 +1,0 @@
--- `octets::runs::octet` meets its contract. Past the end `get_or` gives its default, 0. Assumes nothing.
-use lib.ListN.{get_or-eq_default}
-use mathlib.Core.Path.{sym}
-use Rattle.octets.proofs.runs.octet.Goals as goal
-
-pub returns-else-at-s : goal.returns-else-at-s
-returns-else-at-s c = sym (get_or-eq_default c.args.s.now 0 c.if-at-s.false)
