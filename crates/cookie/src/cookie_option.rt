@@ -55,7 +55,7 @@ pub fn write_fresh_for(
     Ok(())
 }
 
-// The same, of an address in its bytes.
+// The same, of an address in its bytes, which its promise is on: so secret, clock and address come one by one, and no `Setting`.
 #[tactic(auto, using(crate::proofs::OptionLaws::fresh_no_room, crate::proofs::OptionLaws::fresh_no_address, crate::proofs::MessageLaws::not_read, crate::proofs::MessageLaws::is_read))]
 pub fn write_fresh(
     output: &mut [u8],

@@ -27,7 +27,7 @@ pub enum Refusal {
     NotKept = 100,
 }
 
-// A refusal's number.
+// A refusal's number. Each crate that refuses has its own impl of the library's trait.
 impl From<Refusal> for u8 {
     ghost from_gives = { λ refusal number. number ≡ refusal_number refusal };
 

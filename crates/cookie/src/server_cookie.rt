@@ -63,7 +63,8 @@ impl Setting {
     }
 }
 
-// Judges a COOKIE body of any bytes: the verdict, or the refusal of what can't be judged.
+// Judges a COOKIE body of any bytes: the verdict, or the refusal of what can't be judged. It takes secrets, clock and address one by one,
+// and no `Setting`: its promise is on the address's bytes.
 #[tactic(auto, using(crate::proofs::ServerLaws::refuse_address, crate::proofs::ServerLaws::judge_ignored, crate::proofs::ServerLaws::refuse_body, crate::proofs::ServerLaws::judge_found, crate::proofs::MessageLaws::not_read, crate::proofs::MessageLaws::is_read))]
 pub fn judge(
     mode: Mode,

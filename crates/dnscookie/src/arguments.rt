@@ -5,7 +5,6 @@ ghost use Rattle.dnscookie.specs.Arguments.{fault_number, mode_in, secrets_read}
 use secret::{Secret, Secrets};
 use verdict::Mode;
 
-// C's answers are numbers, so that what is refused is turned into one by `match`, where a Result would take `?`.
 // Refusals that document 01 has not, each with its number for C: of arguments that only C can get wrong, and the last
 // one, which is no fault of the arguments.
 #[derive(Clone, Copy, Debug, PartialEq, Eq)]

@@ -8,6 +8,9 @@ use crate::{arguments, words};
 use cookie::Hashed;
 use secret::Secret;
 
+// C's answers are numbers, 0 for done: so what is refused is turned into one by `match`, here and in the other files, where a Result
+// would take `?`.
+
 // Writes a fresh option under the generating secret to the front of the output.
 #[tactic(auto, unfolding(crate::specs::Calls::make_call, crate::specs::Calls::maker_refusal))]
 pub fn dnscookie_make(

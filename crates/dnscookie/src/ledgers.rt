@@ -8,7 +8,7 @@ use crate::arguments::Fault;
 use ledger::Ledger;
 use secret::Secrets;
 
-// A fresh ledger.
+// A fresh ledger. 0 is the header's number for done, here and for a step.
 #[tactic(auto, unfolding(crate::specs::Calls::fresh_call, snapshot::specs::Snapshot::kept_in))]
 pub fn dnscookie_ledger_fresh(state: &mut [u8]) -> u32
     ensures { result leaving state.new ≡ fresh_call state.old }

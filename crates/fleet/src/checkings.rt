@@ -32,6 +32,7 @@ fn check_without(mode: Mode, address: &[u8], body: &[u8]) -> Fault
 }
 
 // A member checks the COOKIE body that came from an address: the judge's verdict under its secrets. The ledger stays as it is.
+// Member, mode, time and address come one by one, as the call of the definition has them (`checking`).
 pub fn check(
     ledger: Ledger,
     member: u8,

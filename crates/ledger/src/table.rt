@@ -6,6 +6,7 @@ ghost use Rattle.ledger.specs.Rules.{stage_table};
 use crate::Refusal;
 use secret::{Secret, Secrets};
 
+// Each crate that refuses has its own impl: the trait is the library's, and the numbers stand at the names.
 impl From<Refusal> for u8 {
     ghost from_gives = { λ reason number. number ≡ refusal_number reason };
 
@@ -24,7 +25,8 @@ pub fn answer_number(answer: Result<(), Refusal>) -> u8
     }
 }
 
-// What a member at a stage makes cookies with, and what else it accepts. The stage is the number that crate stages gives.
+// What a member at a stage makes cookies with, and what else it accepts. The stage is a number and no enum, as crate stages gives it:
+// `stage_table` speaks of every one.
 pub fn secrets_at(stage: u8, current: Secret, new: Secret) -> Secrets
     ensures { result ≡ stage_table stage current new }
 {

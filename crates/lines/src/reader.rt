@@ -89,7 +89,8 @@ fn line_end(bytes: &[u8]) -> Option<usize>
 // Answers each line of an input. A comment or an empty line is printed as it is; any other is handed to a closure, and
 // where that has no answer, the line is told to be bad, by its number, from 1. A line that does not fit into the buffer
 // is told too, and is the last; so is one at which a read or a write fails.
-// Nothing says that an input ends, and a proved loop has to: a u64 counts the lines.
+// Nothing says that an input ends, and a proved loop has to: a u64 counts the lines. A writer and a line go together through a program's
+// functions: two borrows, of which a struct would say nothing more.
 pub fn each<R: Read, W: Write, F: FnMut(&mut W, &[u8]) -> Option<io::Result<()>>>(
     input: &mut R,
     out: &mut W,

@@ -10,6 +10,7 @@
 //
 // If standard input cannot be read to its end, the whole records that were read are listed, without such a line, and
 // standard error says why. The exit status is then 1.
+// list_tail is this program on a second journal: one call each, since a program has one stored run.
 #![tactic(auto)]
 
 use std::io;

@@ -7,7 +7,7 @@ use crate::Refusal;
 use edns::Past;
 use message::Fault;
 
-// Document 01's number of a refusal, 3 to 10.
+// Document 01's number of a refusal, 3 to 10. Each crate that refuses has its own impl of the library's trait.
 impl From<Refusal> for u8 {
     ghost from_gives = { λ refusal n. n ≡ refusal_number refusal };
 

@@ -78,7 +78,7 @@ fn ignore(message: &[u8]) -> Result<Answered, Refusal>
 
 // Answers a request: a message from a client's address (4 or 16 bytes), at a clock (seconds modulo 2^32), for a member of this mode that
 // holds these secrets, with an output of 28 bytes or more. Where the reply carries a COOKIE option, its 28 bytes are written to the front
-// of the output; every other byte of the output, and all of them on refusal, stay.
+// of the output; every other byte of the output, and all of them on refusal, stay. All is taken one by one, as the promise is on bytes.
 pub fn respond(
     mode: Mode,
     secrets: Secrets,
