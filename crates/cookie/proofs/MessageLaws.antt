@@ -1,5 +1,5 @@
 -- What the proofs of `is_address`, `word` and `Address::read` cite: lengths, and words of bytes. Assumes nothing.
-use Rattle.std.proofs.Common.{◌≡◌, ℕ, ◌+◌, ◌-◌, ◌≤◌, ◌<◌, Bool, true, false, leb, cond, List, [], ◌∷◌, ◌++◌, length, take, drop, get_or, Option, Some, None, IsSome, option_map, sym, refl, ap, ap₂, ◌∙◌, arith, length-drop, eq-eqb, ne_eqb, le-leb, length-take-le, take-append-drop, w8, Fits}
+use Rattle.std.proofs.Common.{◌≡◌, ℕ, ◌+◌, ◌≤◌, ◌<◌, Bool, true, false, leb, cond, List, ◌++◌, length, take, drop, get_or, Option, Some, None, IsSome, option_map, sym, refl, ap, ap₂, ◌∙◌, arith, eq-eqb, ne_eqb, le-leb, length-take-le, take-append-drop, w8, Fits}
 use borrow.Author.Tests.{lt-leb}
 use lib.Seq.{take-add, take_all}
 use Rattle.octets.specs.Numbers.{le_number, le_bytes}

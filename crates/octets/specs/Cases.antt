@@ -1,11 +1,21 @@
 -- Cases that pin the definitions of Numbers.antt, Runs.antt and Refusals.antt, bytes and numbers written out (`FirstIs` and `NoneApplies` are tied to `first`
 -- by laws, both ways). The number is the timestamp of RFC 9018's first vector
 -- (P1 of document 01), the word that of the key in the SipHash paper, appendix A. Assumes nothing.
-use Rattle.std.specs.Prelude.{◌≡◌, true, false, List, [], ◌∷◌, ℕ, suc, replicate, Some, None}
+use Rattle.std.specs.Prelude.{◌≡◌, true, false, List, [], ◌∷◌, ℕ, suc, replicate, Some, None, ◌+◌, ◌<◌, ◌≤◌, length, take, drop, get_or}
 use Rattle.std.proofs.Math.Option.{none, some}
 use Rattle.octets.specs.Numbers.{le_number, le_bytes, be_number, be_bytes, printed, be16_at, be32_at, be64_at}
 use Rattle.octets.specs.Refusals.{Row, ◌when◌, first, answered, is_none}
 use Rattle.octets.specs.Runs.{bytes_at, part_end, same_run, fits, written}
+
+-- what is read from a place on, for every run and place
+pub record ReadsHold : Type 0 where
+  -- as many bytes as are asked for, each of them the one at its place, and within the run a part of it
+  pub so_many : (n : ℕ) (s : List ℕ) (at : ℕ) → length (bytes_at n s at) ≡ n
+  pub each_byte : (n : ℕ) (s : List ℕ) (at k : ℕ) → k < n → get_or (bytes_at n s at) k 0 ≡ get_or s (at + k) 0
+  pub within : (n : ℕ) (s : List ℕ) (at : ℕ) → at + n ≤ length s → bytes_at n s at ≡ take n (drop at s)
+  -- a part ends behind its length and so many bytes, if the run has them all, and otherwise nowhere
+  pub part_ends : (s : List ℕ) (at : ℕ) → at + 2 + be16_at s at ≤ length s → part_end s at ≡ Some (at + 2 + be16_at s at)
+  pub part_lacks : (s : List ℕ) (at : ℕ) → length s < at + 2 + be16_at s at → part_end s at ≡ None
 
 -- the claim: each definition gives what is written beside it
 pub record CasesHold : Type 0 where

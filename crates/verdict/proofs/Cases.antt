@@ -96,4 +96,6 @@ words_hold =
       serve_kept = refl;
       bad_fresh = refl;
       truncate_none = refl;
+      every_good = λ age which. refl;
+      every_reply = λ action option. refl;
     }

@@ -1,13 +1,15 @@
 -- Cases that pin the definitions: ages, each cell of the reply table, and what each case of the enums says. The cookie is P1's; the hashes of those with
 -- reserved bytes set are what OpenSSL's SIPHASH gives. Assumes nothing.
-use Rattle.std.specs.Prelude.{◌≡◌, ℕ, suc, ◌+◌, ◌-◌, ◌^◌, ◌≤◌, true, false, List, [], ◌∷◌, take, drop, ℤ, pos, negsuc, ◌≢◌, codes}
+use Rattle.std.specs.Prelude.{◌≡◌, ℕ, suc, ◌+◌, ◌-◌, ◌^◌, ◌≤◌, true, false, List, [], ◌∷◌, ◌++◌, take, drop, ℤ, pos, negsuc, ◌≢◌, codes}
+use Rattle.std.specs.Fmt.{signed_decimal}
 use Rattle.octets.specs.Numbers.{printed}
 use Rattle.verdict.specs.Findings.{Finding, finding, by_time}
 use Rattle.verdict.specs.Findings.Finding.{ignored, absent, clientOnly, bad, good}
 use Rattle.verdict.specs.ReplyTable.{is_disabled, ◌carrying◌, owed_of, reply_owed}
 use Rattle.verdict.specs.ReplyTable.Sent.{serve, truncate, error}
 use Rattle.verdict.specs.Serial.{age}
-use Rattle.verdict.specs.Words.{verdict_words, reply_words}
+use Rattle.verdict.specs.Words.{which_words, verdict_words, action_words, carried_words, reply_words}
+use Rattle.verdict.specs.declared.Action.{Action}
 use Rattle.verdict.specs.declared.Action.TheVariants.{Serve, BadCookie, Truncate}
 use Rattle.verdict.specs.declared.Carried.{Carried}
 use Rattle.verdict.specs.declared.Carried.TheVariants.{Nothing, Fresh, Kept}
@@ -101,3 +103,6 @@ pub record WordsHold : Type 0 where
   pub serve_kept : reply_words (record { action = Serve; option = Kept }) ≡ codes "serve kept"
   pub bad_fresh : reply_words (record { action = BadCookie; option = Fresh }) ≡ codes "badcookie fresh"
   pub truncate_none : reply_words (record { action = Truncate; option = Nothing }) ≡ codes "truncate none"
+  -- every age and secret, every reply
+  pub every_good : (age : ℤ) (which : Which) → verdict_words (Good age which) ≡ codes "good " ++ signed_decimal age ++ codes " " ++ which_words which
+  pub every_reply : (action : Action) (option : Carried) → reply_words (record { action = action; option = option }) ≡ action_words action ++ codes " " ++ carried_words option
