@@ -71,7 +71,7 @@ fn answer_checked(
 ) -> io::Result<()> {
     out.write_all(line)?;
     match checked {
-        Ok(verdict) => write!(out, " {verdict}"),
+        Ok(verdict) => output::say_words(out, &format_args!(" {verdict}")),
         Err(fault) => say_fault(out, fault),
     }?;
     writeln!(out)

@@ -28,6 +28,7 @@ mod cookies;
 mod steps;
 
 use ledger::Ledger;
+use lines::reader::Answers;
 use lines::{reader, text};
 use std::io;
 use std::io::Write;
@@ -43,13 +44,26 @@ fn run_line(out: &mut impl Write, line: &[u8], ledger: &mut Ledger) -> Option<io
     }
 }
 
+// The one ledger.
+#[derive(Drop)]
+struct Fleet {
+    ledger: Ledger,
+}
+
+impl<W: Write> Answers<W> for Fleet {
+    fn answer(&mut self, out: &mut W, line: &[u8]) -> Option<io::Result<()>> {
+        run_line(out, line, &mut self.ledger)
+    }
+}
+
 fn main(rt: HostRuntime) -> io::Result<()> {
     let mut buffer = [0; 262144];
-    let mut ledger = fleet::fresh();
     reader::each(
         &mut rt.stdin(),
         &mut rt.stdout(),
         &mut buffer,
-        |out, line| run_line(out, line, &mut ledger),
+        &mut Fleet {
+            ledger: fleet::fresh(),
+        },
     )
 }

@@ -21,6 +21,7 @@
 #![tactic(auto)]
 
 use lines::fields::ServerSetting;
+use lines::reader::Answers;
 use lines::{fields, hex, output, reader, text};
 use server::{Answered, ErrorReply, Refusal};
 use std::io;
@@ -37,12 +38,15 @@ fn say_refusal(out: &mut impl Write, refusal: Refusal) -> io::Result<()> {
         ErrorReply::FormErr => "formerr",
         ErrorReply::BadVers => "badvers",
     };
-    write!(out, " refused {} {owed}", u8::from(refusal))
+    output::say_words(out, &format_args!(" refused {} {owed}", u8::from(refusal)))
 }
 
 fn say_response(out: &mut impl Write, response: Result<Answered, Refusal>) -> io::Result<()> {
     match response {
-        Ok(Answered { verdict, reply }) => write!(out, " {verdict} {reply}"),
+        Ok(Answered { verdict, reply }) => output::say_words(
+            out,
+            &format_args!(" {verdict} {reply}"),
+        ),
         Err(refusal) => say_refusal(out, refusal),
     }
 }
@@ -95,6 +99,19 @@ fn run_line(
     Some(answer(out, line, message.len(), response, lent))
 }
 
+// Room for a message, and for the buffer that is lent.
+#[derive(Drop)]
+struct Server<'a> {
+    bytes: &'a mut [u8],
+    lent: &'a mut [u8],
+}
+
+impl<W: Write> Answers<W> for Server<'_> {
+    fn answer(&mut self, out: &mut W, line: &[u8]) -> Option<io::Result<()>> {
+        run_line(out, line, self.bytes, self.lent)
+    }
+}
+
 fn main(rt: HostRuntime) -> io::Result<()> {
     let mut buffer = [0; 262144];
     let mut bytes = [0; 131072];
@@ -103,6 +120,9 @@ fn main(rt: HostRuntime) -> io::Result<()> {
         &mut rt.stdin(),
         &mut rt.stdout(),
         &mut buffer,
-        |out, line| run_line(out, line, &mut bytes, &mut lent),
+        &mut Server {
+            bytes: &mut bytes,
+            lent: &mut lent,
+        },
     )
 }

@@ -11,10 +11,9 @@ use lib.Seq.{drop-drop, take-add, take_all}
 use Rattle.octets.specs.Numbers.{le_number, le_bytes, be_bytes}
 use Rattle.octets.specs.Runs.{same_run, fits, written}
 use Rattle.octets.proofs.NumberLaws.{length_le_bytes, le_again}
-use Rattle.octets.proofs.RunLaws.{written_behind, equal_is}
+use Rattle.octets.proofs.RunLaws.{written_behind}
 use Rattle.secret.specs.declared.Secret.{Secret}
 use Rattle.siphash.specs.SipHash.{sip_hash24, sip_hash24_bytes}
-use Rattle.std.specs.Str.{bytes_eq}
 use Rattle.cookie.specs.CookieOption.{option_head, fresh_front, fresh_server, fresh_option, fresh_refusal, kept_option, kept_refusal, output_after, written_body}
 use Rattle.cookie.specs.ServerCookie.{sip_hash_method, is_address}
 
@@ -154,9 +153,9 @@ module _ (s : List ℕ) where
   unfolding written_body
   body_short short = rw (lt-leb 28 (length s) short)
 
-  module _ (long : 28 ≤ length s) (t : Bool) (told : t ≡ bytes_eq (take 4 s) option_head) where
+  module _ (long : 28 ≤ length s) (t : Bool) (told : t ≡ same_run (take 4 s) option_head) where
     same : same_run (take 4 s) option_head ≡ t
-    same = sym (equal_is (take 4 s) option_head t told)
+    same = sym told
 
     pub body_other : t ≡ false → [] ≡ written_body s
     unfolding written_body

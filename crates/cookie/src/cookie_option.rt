@@ -100,7 +100,7 @@ pub fn write_kept(output: &mut [u8], body: &[u8]) -> Result<(), Refusal>
 pub fn written_body(buffer: &[u8]) -> &[u8]
     ensures { result.now ≡ written_body buffer.now }
 {
-    if buffer.len() < 28 || !buffer.starts_with(&HEAD) {
+    if buffer.len() < 28 || !octets::same(&buffer[..4], &HEAD) {
         return &[];
     }
     &buffer[4..28]

@@ -65,7 +65,7 @@ impl Setting {
 
 // Judges a COOKIE body of any bytes: the verdict, or the refusal of what can't be judged. It takes secrets, clock and address one by one,
 // and no `Setting`: its promise is on the address's bytes.
-#[tactic(auto, using(crate::proofs::ServerLaws::refuse_address, crate::proofs::ServerLaws::judge_ignored, crate::proofs::ServerLaws::refuse_body, crate::proofs::ServerLaws::judge_found, crate::proofs::MessageLaws::not_read, crate::proofs::MessageLaws::is_read))]
+#[tactic(auto, using(crate::proofs::ServerLaws::refuse_address, crate::proofs::ServerLaws::judge_ignored, crate::proofs::ServerLaws::refuse_body, crate::proofs::ServerLaws::judge_found, crate::proofs::MessageLaws::is_read, crate::proofs::MessageLaws::read_some))]
 pub fn judge(
     mode: Mode,
     secrets: Secrets,
@@ -75,17 +75,20 @@ pub fn judge(
 ) -> Result<Verdict, Refusal>
     ensures { answer_of result ≡ judgement sip_hash_method mode secrets clock address.now body.now }
 {
-    let address = Address::read(address).ok_or(Refusal::Address)?;
+    if !crate::is_address(address) {
+        return Err(Refusal::Address);
+    }
     if verdict::is_disabled(mode) {
         return Ok(Verdict::Ignored);
     }
     if !edns::is_cookie_length(body.len()) {
         return Err(Refusal::Body);
     }
+    // The address is read only here: what is refused or ignored needs none of its bytes.
     let setting = Setting {
         secrets,
         clock,
-        address,
+        address: Address::read(address).unwrap(),
     };
     Ok(setting.judge_body(body))
 }

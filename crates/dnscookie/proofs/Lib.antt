@@ -8,3 +8,4 @@ pub mod LedgerLaws
 pub mod Likewise
 pub mod Members
 pub mod Steps
+pub mod TimeLaws

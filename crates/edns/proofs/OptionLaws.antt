@@ -45,6 +45,12 @@ option_lies d at o h =
           absurd (none-ne-some o (there ∙ h))
     ]
 
+-- one that is past the end: docs/PORT.md names this law, and no answer cites it today
+module _ (d : List ℕ) (at end : ℕ) (end_is : end ≡ at + 4 + be16_at d (at + 2)) where
+  pub option_past_lem : length d < end → none ≡ option_at d at
+  unfolding option_at
+  option_past_lem past = simp (lt-leb (at + 4 + be16_at d (at + 2)) (length d) (omega (arith, end_is)))
+
 -- one whose body's end the code has asked for
 module _ (d : List ℕ) (at : ℕ) where
   pub option_lacks : None ≡ part_end d (at + 2) → none ≡ option_at d at

@@ -1,10 +1,52 @@
 // What the programs print, by way of a writer that the caller lends.
+ghost use Rattle.std.specs.Prelude.{◌≡◌, ◌≤◌, ◌++◌, take, OnOk, IfSome};
+ghost use Rattle.std.specs.Io.KnownBytes.{Appends};
+
 use crate::hex;
-use std::io;
+use std::fmt::Write as _;
 use std::io::Write;
+use std::{fmt, io};
 
 // Messages of up to so many bytes are printed again.
 const SHOWN: usize = 512;
+
+// Room for the words behind a line: those of a good verdict and its reply are at most 45 bytes.
+const WORDS: usize = 64;
+
+// Words that are put together: so many of the bytes.
+#[derive(Drop)]
+struct Words {
+    bytes: [u8; WORDS],
+    len: usize,
+    ghost fits: { len ≤ 64 },
+}
+
+impl fmt::Write for Words {
+    ghost write_str_gives = { λ before text after. take after.len after.bytes ≡ take before.len before.bytes ++ text };
+
+    fn write_str(&mut self, text: &str) -> fmt::Result {
+        if !octets::put(&mut self.bytes, self.len, text.as_bytes()) {
+            return Err(fmt::Error);
+        }
+        self.len += text.len();
+        Ok(())
+    }
+}
+
+// Words that are printed in pieces, put together first: a write for each piece would take longer than all the rest of a line. What has
+// no room here is written piece by piece.
+pub fn say_words<W: Write, D: fmt::Display>(out: &mut W, words: &D) -> io::Result<()>
+    ensures { OnOk result (IfSome (D.output words.now) (Appends (W.contents out.old) (W.contents out.new))) }
+{
+    let mut text = Words {
+        bytes: [0; WORDS],
+        len: 0,
+    };
+    match write!(text, "{words}") {
+        Ok(()) => out.write_all(&text.bytes[..text.len]),
+        Err(_) => write!(out, "{words}"),
+    }
+}
 
 // The text of a message again, or how many bytes the message has.
 pub fn say_message(out: &mut impl Write, text: &[u8], count: usize) -> io::Result<()> {

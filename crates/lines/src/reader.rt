@@ -86,18 +86,23 @@ fn line_end(bytes: &[u8]) -> Option<usize>
     bytes.iter().position(|b| *b == b'\n')
 }
 
-// Answers each line of an input. A comment or an empty line is printed as it is; any other is handed to a closure, and
+// A program's answer to a line. A trait and no closure: that a closure may be called is something that a caller would have to show.
+pub trait Answers<W> {
+    // Writes what came of a line; nothing where the line is badly written.
+    fn answer(&mut self, out: &mut W, line: &[u8]) -> Option<io::Result<()>>;
+}
+
+// Answers each line of an input. A comment or an empty line is printed as it is; any other is handed to the program, and
 // where that has no answer, the line is told to be bad, by its number, from 1. A line that does not fit into the buffer
 // is told too, and is the last; so is one at which a read or a write fails.
 // Nothing says that an input ends, and a proved loop has to: a u64 counts the lines. A writer and a line go together through a program's
 // functions: two borrows, of which a struct would say nothing more.
-pub fn each<R: Read, W: Write, F: FnMut(&mut W, &[u8]) -> Option<io::Result<()>>>(
+pub fn each<R: Read, W: Write, A: Answers<W>>(
     input: &mut R,
     out: &mut W,
     buffer: &mut [u8],
-    mut answer: F,
+    answers: &mut A,
 ) -> io::Result<()>
-    requires { F.IsAlwaysCallable answer }
     ensures { length buffer.new ≡ length buffer.old }
 {
     let mut lines = Lines {
@@ -113,7 +118,7 @@ pub fn each<R: Read, W: Write, F: FnMut(&mut W, &[u8]) -> Option<io::Result<()>>
                 out.write_all(line)?;
                 writeln!(out)?;
             }
-            Found::Line(line) => match answer(out, line) {
+            Found::Line(line) => match answers.answer(out, line) {
                 Some(answered) => answered?,
                 None => writeln!(out, "bad line {number}")?,
             },

@@ -11,8 +11,6 @@ use lib.Dec.{eqb, ltb}
 use lib.ListN.{length, take}
 use Rattle.std.specs.Prelude as code
 use Rattle.std.specs.Prelude.{Some, None, Ok, Err}
-use Rattle.std.specs.Option.{ok_or}
-use Rattle.message.specs.Answers.{found_of}
 use Rattle.message.specs.Message.{records, is_opt, opts, is_any, is_second, any_foreign, wrong_among}
 use Rattle.message.specs.Record.{record_at}
 use Rattle.message.specs.Scan.{Outline, is_wrong, with_records, scan, scanned}
@@ -61,44 +59,28 @@ module _ (s : List ℕ) (a at left : ℕ) (opt : code.Option Record) (wrong : Bo
     one_more : scanned (left - a) opt wrong (suc (left - 1)) s at ≡ all
     one_more = let left_is : suc (left - 1) ≡ left = omega arith in rw left_is so_far
 
-    cut : none ≡ record_at s at → Err Malformed ≡ all
+    pub scan_cut : none ≡ record_at s at → Err Malformed ≡ all
     unfolding scanned records bind
-    cut found = sym (rw (← found)) ∙ one_more
+    scan_cut found = sym (rw (← found)) ∙ one_more
 
-    -- as the code asks for one
-    module _ (f : code.Option Record) (found : found_of f ≡ record_at s at) where
-      pub scan_cut : (fault : Fault) → Err fault ≡ ok_or f Malformed → Err fault ≡ all
-      scan_cut fault e = by f found e
-        where
-          by : (g : code.Option Record) → found_of g ≡ record_at s at → Err fault ≡ ok_or g Malformed → Err fault ≡ all
-          by None is h = let same : fault ≡ Malformed = cc in rw same (cut is)
-          by (Some r) is h = cc
+    module _ (r : Record) (there : some r ≡ record_at s at) where
+      before_is : left - 1 - a ≡ left - a - 1
+      before_is = omega arith
 
-      module _ (r : Record) (e : Ok r ≡ ok_or f Malformed) where
-        there : some r ≡ record_at s at
-        there = by f found e
-          where
-            by : (g : code.Option Record) → found_of g ≡ record_at s at → Ok r ≡ ok_or g Malformed → some r ≡ record_at s at
-            by None is h = cc
-            by (Some q) is h = let same : r ≡ q = cc in rw same is
+      pub scan_other : (r.kind ≡ 41 → ⊥) → scanned (left - 1 - a) opt wrong (left - 1) s r.end ≡ all
+      unfolding scanned records bind
+      scan_other other =
+          let one : scan (left - a) opt wrong (records (suc (left - 1)) s at) ≡ scan (left - a - 1) opt wrong (records (left - 1) s r.end) =
+          rw (← there) (push_other (left - a) r (records (left - 1) s r.end) (ne_eqb r.kind 41 other)) in
+          rw before_is (sym one ∙ one_more)
 
-        before_is : left - 1 - a ≡ left - a - 1
-        before_is = omega arith
-
-        pub scan_other : (r.kind ≡ 41 → ⊥) → scanned (left - 1 - a) opt wrong (left - 1) s r.end ≡ all
-        unfolding scanned records bind
-        scan_other other =
-            let one : scan (left - a) opt wrong (records (suc (left - 1)) s at) ≡ scan (left - a - 1) opt wrong (records (left - 1) s r.end) =
-            rw (← there) (push_other (left - a) r (records (left - 1) s r.end) (ne_eqb r.kind 41 other)) in
-            rw before_is (sym one ∙ one_more)
-
-        pub scan_opt : r.kind ≡ 41 → (w : Bool) → w ≡ is_wrong opt (ltb (left - 1) a) r → scanned (left - 1 - a) (Some r) (wrong || w) (left - 1) s r.end ≡ all
-        unfolding scanned records bind
-        scan_opt is w told =
-            let one : scan (left - a) opt wrong (records (suc (left - 1)) s at)
-            ≡ scan (left - a - 1) (Some r) (wrong || is_wrong opt (eqb (left - a) 0) r) (records (left - 1) s r.end) =
-            rw (← there) (push_opt (left - a) r (records (left - 1) s r.end) (eq-eqb r.kind 41 is)) in
-            rw (before_is, told, is_placed left a one_left) (sym one ∙ one_more)
+      pub scan_opt : r.kind ≡ 41 → (w : Bool) → w ≡ is_wrong opt (ltb (left - 1) a) r → scanned (left - 1 - a) (Some r) (wrong || w) (left - 1) s r.end ≡ all
+      unfolding scanned records bind
+      scan_opt is w told =
+          let one : scan (left - a) opt wrong (records (suc (left - 1)) s at)
+          ≡ scan (left - a - 1) (Some r) (wrong || is_wrong opt (eqb (left - a) 0) r) (records (left - 1) s r.end) =
+          rw (← there) (push_opt (left - a) r (records (left - 1) s r.end) (eq-eqb r.kind 41 is)) in
+          rw (before_is, told, is_placed left a one_left) (sym one ∙ one_more)
 
 -- ---- all of them: the OPT of the definition
 

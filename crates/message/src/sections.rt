@@ -1,5 +1,6 @@
 // A whole message: its questions, its records, and which record is the OPT.
-ghost use Rattle.std.specs.Prelude.{◌≡◌, ◌-◌, false, None};
+ghost use Rattle.std.specs.Prelude.{◌≡◌, ◌-◌, cond, false, None, Ok, Err};
+ghost use Rattle.message.specs.declared.Fault.TheVariants.{WrongOpt};
 ghost use Rattle.message.specs.Message.{questions_end, outline};
 ghost use Rattle.message.specs.Scan.{is_wrong, scanned};
 ghost use Rattle.message.specs.Answers.{end_of, outline_of};
@@ -24,6 +25,13 @@ fn is_wrong(opt: Option<Record>, placed: bool, next: Record) -> bool
     !placed || !next.root || opt.is_some()
 }
 
+// What is told of all records: the OPT or none, or check 7's fault.
+fn told(opt: Option<Record>, wrong: bool) -> Result<Option<Record>, Fault>
+    ensures { result ≡ cond wrong (Err WrongOpt) (Ok opt) }
+{
+    if wrong { Err(Fault::WrongOpt) } else { Ok(opt) }
+}
+
 // So many records from a place to the message's end, of which the last ones are the additional section's. The OPT so far and whether one
 // was wrong are two locals: carried through the loop as the Result that they become they go through memory (find 0.96 for 0.83).
 fn walk_records(
@@ -38,7 +46,9 @@ fn walk_records(
     let mut opt = None;
     let mut wrong = false;
     for behind in (0..count).rev() {
-        let next = crate::record_at(message, at).ok_or(Fault::Malformed)?;
+        let Some(next) = crate::record_at(message, at) else {
+            return Err(Fault::Malformed);
+        };
         if next.kind == 41 {
             wrong |= is_wrong(opt, behind < additional, next);
             opt = Some(next);
@@ -48,10 +58,7 @@ fn walk_records(
     if at != message.len() {
         return Err(Fault::Malformed);
     }
-    if wrong {
-        return Err(Fault::WrongOpt);
-    }
-    Ok(opt)
+    told(opt, wrong)
 }
 
 // Walks a whole message: whether its questions and records are there and nothing else is, and which record is the OPT.

@@ -12,6 +12,7 @@
 // 131,072 or more, by `long line` and its number, and nothing after it is read.
 #![tactic(auto)]
 
+use lines::reader::Answers;
 use lines::{hex, output, reader};
 use request::Reading;
 use std::io;
@@ -34,6 +35,19 @@ fn answer(out: &mut impl Write, line: &[u8], message: &[u8]) -> io::Result<()> {
     output::say_last(out, request::cookie_body(message))
 }
 
+// Room for a message.
+#[derive(Drop)]
+struct Requests<'a> {
+    bytes: &'a mut [u8],
+}
+
+impl<W: Write> Answers<W> for Requests<'_> {
+    fn answer(&mut self, out: &mut W, line: &[u8]) -> Option<io::Result<()>> {
+        let message = hex::decode(line, self.bytes)?;
+        Some(answer(out, line, message))
+    }
+}
+
 fn main(rt: HostRuntime) -> io::Result<()> {
     let mut buffer = [0; 262144];
     let mut bytes = [0; 131072];
@@ -41,9 +55,6 @@ fn main(rt: HostRuntime) -> io::Result<()> {
         &mut rt.stdin(),
         &mut rt.stdout(),
         &mut buffer,
-        |out, line| {
-            let message = hex::decode(line, &mut bytes)?;
-            Some(answer(out, line, message))
-        },
+        &mut Requests { bytes: &mut bytes },
     )
 }

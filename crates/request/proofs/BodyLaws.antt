@@ -119,6 +119,10 @@ module _ (s : List ℕ) where
   body_is a read = ap (body_at s) read
 
   module _ (q start end : ℕ) (read : cookie q start end ≡ request s) where
+    -- what is read is the part that was found: docs/PORT.md names this law, and no answer cites it today
+    pub body_at_lem : take (end - start) (drop start s) ≡ cookie_body s
+    body_at_lem = body_is (cookie q start end) read
+
     inside : (start ≤ end) × (end ≤ length s)
     inside = subst (AnswerInside (length s)) (sym read) (request_inside s)
 

@@ -6,9 +6,9 @@ use mathlib.Core.List.{List, [], ◌∷◌}
 use mathlib.Core.Option
 use mathlib.Core.Option.{Option, none, some}
 use native.Mathlib.Omega.{arith}
-use borrow.Author.Tests.{lt-ltb, le-ltb, ltb-false}
+use borrow.Author.Tests.{lt-ltb, le-ltb, le-leb, eq-eqb, ltb-false}
 use lib.Dec.{eqb, ltb}
-use lib.ListN.{length, take, drop, length-drop}
+use lib.ListN.{length, take, drop, get_or, length-drop}
 use Rattle.octets.specs.Refusals.{◌when◌, first, answered, is_none, NoneApplies}
 use Rattle.octets.proofs.RefusalLaws.{Numbered, or_l, or_r, this_not, first_front, zero_none, first_behind}
 use Rattle.edns.specs.Options.{options, options_from, options_in, options_of, option_past, first_cookie, is_cookie_length, place, cookie_in}
@@ -79,6 +79,10 @@ rest_is s few = rw few (from_outline s (qdcount s) (malformed s) (wrong_opt s) (
 
 -- ---- checks 8 to 10
 
+-- an OPT without a COOKIE option: docs/PORT.md names this law, and no answer cites it today
+pub no_cookie_lem : (s : List ℕ) (q : ℕ) (r : Record) → r.version ≡ 0 → edns.no_cookie ≡ cookie_in (data_of s r) → no_cookie q ≡ after_opt s q r
+no_cookie_lem s q r version walked = rw (← walked) (simp (eq-eqb r.version 0 version))
+
 -- a COOKIE body that was found in a part of the message
 module _ (s : List ℕ) (start end from to : ℕ) (walked : edns.cookie from to ≡ cookie_in (take (end - start) (drop start s))) where
   pub cookie_ordered : from ≤ to
@@ -125,6 +129,10 @@ or_parts a b e = (or_l a b e, or_r a b e)
 
 pub head_numbered : (s : List ℕ) → Numbered (head_checks s)
 head_numbered s = ((2, refl), ((3, refl), tt))
+
+-- a response is refused by 4, if its length is right: docs/PORT.md names this law, and no answer cites it today
+pub head_4 : (s : List ℕ) → 12 ≤ length s → length s ≤ 65535 → 128 ≤ get_or s 2 0 → 4 ≡ first (head_checks s)
+head_4 s low high qr = simp (le-ltb _ _ low, le-ltb _ _ high, le-leb _ _ qr)
 
 -- ---- and behind them the rest
 

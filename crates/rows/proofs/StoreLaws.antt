@@ -48,8 +48,8 @@ byte_before buffer at run b within =
 
 -- bytes copied over a part
 pub copied : (n at k : ℕ) (buffer run new : List ℕ) → k ≡ n → at + n ≤ length buffer → length new ≡ length (take k (drop at buffer)) → new ≡ run
-    → Put n buffer at run (at + n) (put_mid at k buffer new)
-copied n at k buffer run new is within long e =
+    → (end : ℕ) → end ≡ at + n → Put n buffer at run end (put_mid at k buffer new)
+copied n at k buffer run new is within long e end end_is =
     let all : n ≡ length run =
     sym (ap length (sym e) ∙ long ∙ ap (λ (m : ℕ). length (take m (drop at buffer))) is ∙ length-take-le n (drop at buffer) (omega (arith, length-drop at buffer))) in
     record {

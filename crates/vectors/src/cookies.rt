@@ -17,7 +17,7 @@ fn answer_found(
 ) -> io::Result<()> {
     out.write_all(line)?;
     let reply = verdict::reply_for(mode, qdcount, verdict, body);
-    writeln!(out, " {verdict} {reply}")
+    output::say_words(out, &format_args!(" {verdict} {reply}\n"))
 }
 
 // Judges a body and answers with the reply that is owed to it.

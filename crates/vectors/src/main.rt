@@ -23,6 +23,7 @@
 
 mod cookies;
 
+use lines::reader::Answers;
 use lines::{fields, hex, output, reader, text};
 use std::io;
 use std::io::Write;
@@ -43,13 +44,25 @@ fn hash_line(out: &mut impl Write, line: &[u8], bytes: &mut [u8]) -> Option<io::
 
 // Answers one line, if it is well written.
 fn run_line(out: &mut impl Write, line: &[u8], bytes: &mut [u8]) -> Option<io::Result<()>> {
-    match (text::field(line, 0), text::fields(line)) {
-        (b"siphash24", 3) => hash_line(out, line, bytes),
-        (b"judge", 8) => cookies::judge_line(out, line, bytes),
-        (b"fresh", 6) => cookies::fresh_line(out, line, bytes),
-        (b"kept", 3) => cookies::kept_line(out, line, bytes),
-        (b"body", 2) => cookies::body_line(out, line, bytes),
+    match text::field(line, 0) {
+        b"siphash24" if text::fields(line) == 3 => hash_line(out, line, bytes),
+        b"judge" if text::fields(line) == 8 => cookies::judge_line(out, line, bytes),
+        b"fresh" if text::fields(line) == 6 => cookies::fresh_line(out, line, bytes),
+        b"kept" if text::fields(line) == 3 => cookies::kept_line(out, line, bytes),
+        b"body" if text::fields(line) == 2 => cookies::body_line(out, line, bytes),
         _ => None,
+    }
+}
+
+// Room for a line's bytes.
+#[derive(Drop)]
+struct Vectors<'a> {
+    bytes: &'a mut [u8],
+}
+
+impl<W: Write> Answers<W> for Vectors<'_> {
+    fn answer(&mut self, out: &mut W, line: &[u8]) -> Option<io::Result<()>> {
+        run_line(out, line, self.bytes)
     }
 }
 
@@ -60,6 +73,6 @@ fn main(rt: HostRuntime) -> io::Result<()> {
         &mut rt.stdin(),
         &mut rt.stdout(),
         &mut buffer,
-        |out, line| run_line(out, line, &mut bytes),
+        &mut Vectors { bytes: &mut bytes },
     )
 }

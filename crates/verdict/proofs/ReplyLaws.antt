@@ -1,7 +1,7 @@
 -- What proofs about replies cite, here and in the crates above. Assumes nothing.
 use Rattle.std.proofs.Common.{◌≡◌, ℕ, ◌<◌, Bool, true, false, ◌&&◌, List, [], ◌∷◌, length, take, drop, refl, ◌∙◌, true≢false, arith, length-drop, length-take}
-use Rattle.std.specs.Str.{bytes_eq}
-use Rattle.octets.proofs.RunLaws.{same_lengths, equal_is}
+use Rattle.octets.specs.Runs.{same_run}
+use Rattle.octets.proofs.RunLaws.{same_lengths}
 use Rattle.verdict.specs.ReplyTable.{is_disabled, reserved_zero}
 use Rattle.verdict.specs.declared.Mode.{Mode}
 use Rattle.verdict.specs.declared.Mode.TheVariants.{Disabled, Enabled, Enforced}
@@ -24,9 +24,9 @@ and_false false = refl
 
 -- the reserved bytes, where the body is long enough to have them and where it isn't
 module _ (body : List ℕ) where
-  pub reserved_there : (part : List ℕ) (t : Bool) → part ≡ take 3 (drop 9 body) → t ≡ bytes_eq part (0 ∷ 0 ∷ 0 ∷ []) → t ≡ reserved_zero body
+  pub reserved_there : (part : List ℕ) (t : Bool) → part ≡ take 3 (drop 9 body) → t ≡ same_run part (0 ∷ 0 ∷ 0 ∷ []) → t ≡ reserved_zero body
   unfolding reserved_zero
-  reserved_there part t is e = equal_is part (0 ∷ 0 ∷ 0 ∷ []) t e ∙ rw is refl
+  reserved_there part t is e = e ∙ rw is refl
 
   pub reserved_short : length body < 12 → false ≡ reserved_zero body
   unfolding reserved_zero

@@ -25,7 +25,7 @@ fn is_young(age: i32) -> bool
 fn has_zero_reserved(body: &[u8]) -> bool
     ensures { result ≡ reserved_zero body.now }
 {
-    12 <= body.len() && &body[9..12] == b"\x00\x00\x00".as_slice()
+    12 <= body.len() && octets::same(&body[9..12], b"\x00\x00\x00")
 }
 
 // Whether a good cookie is sent again or a fresh one.

@@ -7,4 +7,4 @@ pub returns : goal.returns
 returns g c =
     let a = c.args in
     copied g.row.N a.at (a.at + g.row.N - a.at) a.buffer.now a.bytes c.copy_from_slice.new.self (omega arith) c.requires
-    c.copy_from_slice.ensures.len c.copy_from_slice.ensures.after
+    c.copy_from_slice.ensures.len c.copy_from_slice.ensures.after _ (omega arith)
