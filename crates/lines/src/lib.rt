@@ -1,7 +1,7 @@
 // The text that the programs read and print: lines of standard input, their fields, bytes in hexadecimal, standard
 // output.
-// The promises here are bounds, which keep the programs safe, and that words are written whole (`output::say_words`). What the programs
-// print is compared with stored outputs.
+// The promises here are bounds, which keep the programs safe, and that `output::say_words` writes just the words. What
+// the programs print is compared with stored outputs.
 #![tactic(auto)]
 
 pub mod fields;

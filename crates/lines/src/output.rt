@@ -10,10 +10,11 @@ use std::{fmt, io};
 // Messages of up to so many bytes are printed again.
 const SHOWN: usize = 512;
 
-// Room for the words behind a line: those of a good verdict and its reply are at most 45 bytes.
+// Room for the words behind a line: those of a good verdict and its reply are at most 45 bytes. The clause `fits`
+// has the number too.
 const WORDS: usize = 64;
 
-// Words that are put together: so many of the bytes.
+// Words that are put together: the first `len` of the bytes.
 #[derive(Drop)]
 struct Words {
     bytes: [u8; WORDS],
@@ -33,8 +34,8 @@ impl fmt::Write for Words {
     }
 }
 
-// Words that are printed in pieces, put together first: a write for each piece would take longer than all the rest of a line. What has
-// no room here is written piece by piece.
+// Writes words that are printed in pieces at once: a write for each piece takes longer than all the rest of a line.
+// Words that have no room here are written piece by piece.
 pub fn say_words<W: Write, D: fmt::Display>(out: &mut W, words: &D) -> io::Result<()>
     ensures { OnOk result (IfSome (D.output words.now) (Appends (W.contents out.old) (W.contents out.new))) }
 {

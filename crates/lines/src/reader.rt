@@ -86,7 +86,7 @@ fn line_end(bytes: &[u8]) -> Option<usize>
     bytes.iter().position(|b| *b == b'\n')
 }
 
-// A program's answer to a line. A trait and no closure: that a closure may be called is something that a caller would have to show.
+// A program's answer to a line. It is a trait and no closure: a caller would have to show that a closure may be called.
 pub trait Answers<W> {
     // Writes what came of a line; nothing where the line is badly written.
     fn answer(&mut self, out: &mut W, line: &[u8]) -> Option<io::Result<()>>;
