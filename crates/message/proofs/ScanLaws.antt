@@ -14,7 +14,6 @@ use Rattle.std.specs.Prelude.{Some, None, Ok, Err}
 use Rattle.message.specs.Message.{records, is_opt, opts, is_any, is_second, any_foreign, wrong_among}
 use Rattle.message.specs.Record.{record_at}
 use Rattle.message.specs.Scan.{Outline, is_wrong, with_records, scan, scanned}
-use Rattle.message.specs.declared.Fault.{Fault}
 use Rattle.message.specs.declared.Fault.TheVariants.{Malformed, WrongOpt}
 use Rattle.message.specs.declared.Record.{Record}
 

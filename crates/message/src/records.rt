@@ -17,13 +17,13 @@ pub fn question_end(message: &[u8], at: usize) -> Option<usize>
     Some(stop)
 }
 
-// The record at a place.
+// The record at a place. Its data stands behind RDLENGTH, and that behind the 8 bytes of TYPE, CLASS and TTL.
 #[tactic(auto, using(octets::proofs::ReadLaws::part_begins))]
 pub fn record_at(message: &[u8], at: usize) -> Option<Record>
     ensures { found_of result ≡ record_at message.now at }
 {
     let end = crate::name_end(message, at)?;
-    let stop = octets::part_end(message, end + 8)?;
+    let stop = octets::part_end(message, end, 8)?;
     Some(Record {
         root: message[at] == 0,
         kind: octets::be16([message[end], message[end + 1]]),

@@ -185,23 +185,17 @@ behind_16 s place at next e = rw e (omega arith)
 
 -- ---- where a part ends
 
--- the two bytes of its length, as the code reads them
-module _ (s rest two : List ℕ) (at : ℕ) (is : rest ≡ take (length s - at) (drop at s)) (enough : 2 ≤ length rest) (same : two ≡ take 2 rest) where
-  two_is : (k : ℕ) → k < 2 → get_or two k 0 ≡ get_or s (at + k) 0
-  two_is k below =
-      ap (λ (l : List ℕ). get_or l k 0) same ∙ get_or-take 2 rest k 0 below ∙ rest_at 2 s at rest (rest_is s rest at is) k
+-- the two bytes of its length, added to the place behind them
+module _ (s : List ℕ) (at place start : ℕ) (is : place ≡ at) (behind : start ≡ at + 2) where
+  end_is : start + get_or s (place + 1) 0 + get_or s place 0 * 256 ≡ at + 2 + be16_at s at
+  end_is = rw (is, behind) (behind_16 s (at + 2) at (at + 1) refl)
 
-  end_is : at + 2 + get_or two 1 0 + get_or two 0 0 * 256 ≡ at + 2 + be16_at s at
-  end_is =
-      ap₂ (λ (x y : ℕ). at + 2 + x + y * 256) (two_is 1 (omega arith)) (two_is 0 (omega arith) ∙ ap (λ (i : ℕ). get_or s i 0) (add-zero at))
-      ∙ behind_16 s (at + 2) at (at + 1) refl
-
-  pub part_past : length s < at + 2 + get_or two 1 0 + get_or two 0 0 * 256 → None ≡ part_end s at
+  pub part_past : length s < start + get_or s (place + 1) 0 + get_or s place 0 * 256 → None ≡ part_end s at
   unfolding part_end
   part_past past = rw (lt-leb (at + 2 + be16_at s at) (length s) (omega (arith, end_is))) refl
 
-  pub part_inside : at + 2 + get_or two 1 0 + get_or two 0 0 * 256 ≤ length s
-      → Some (at + 2 + get_or two 1 0 + get_or two 0 0 * 256) ≡ part_end s at
+  pub part_inside : start + get_or s (place + 1) 0 + get_or s place 0 * 256 ≤ length s
+      → Some (start + get_or s (place + 1) 0 + get_or s place 0 * 256) ≡ part_end s at
   unfolding part_end
   part_inside inside = rw (le-leb (at + 2 + be16_at s at) (length s) (omega (arith, end_is))) (ap Some end_is)
 

@@ -1,7 +1,7 @@
 // Runs of bytes: one byte of a run, two runs compared, a run written at a place of a lent buffer.
 #![tactic(auto, using(crate::proofs::RunLaws::equal_is))]
 
-ghost use Rattle.std.specs.Prelude.{◌≡◌, get_or};
+ghost use Rattle.std.specs.Prelude.{◌≡◌, ◌+◌, get_or};
 ghost use Rattle.octets.specs.Runs.{bytes_at, part_end, same_run, fits, written};
 
 // The byte at a place, and 0 past the end.
@@ -29,14 +29,20 @@ pub fn bytes_at<const N: usize>(s: &[u8], at: usize) -> [u8; N]
     bytes
 }
 
-// Where the part ends that stands behind the two bytes of its length, from a place on; nothing if it is past the end. The two bytes are
-// added one by one: a walk waits for the next place, and a load of both with a swap takes longer.
+// Where a part ends that stands behind the two bytes of its length, and they behind so many bytes from a place on; nothing if it is past
+// the end. A walk waits for the next place, so the two bytes are added one by one, since a load of both with a swap takes longer. They
+// are added to `start`, which a test has too, and no test has the place of the length, so that LLVM makes it a part of the two loads:
+// with `at + skip` for the place (`end + 8` for a record) an addition more is waited for.
 #[tactic(auto, unfolding(crate::specs::Runs::part_end))]
-pub fn part_end(s: &[u8], at: usize) -> Option<usize>
-    ensures { result ≡ part_end s.now at }
+pub fn part_end(s: &[u8], at: usize, skip: u8) -> Option<usize>
+    ensures { result ≡ part_end s.now (at + skip) }
 {
-    let [high, low] = s.get(at..)?.first_chunk::<2>()?;
-    let end = at + 2 + *low as usize + *high as usize * 256;
+    let start = at.checked_add(skip as usize + 2)?;
+    if s.len() < start {
+        return None;
+    }
+    let length = at + skip as usize;
+    let end = start + s[length + 1] as usize + s[length] as usize * 256;
     if s.len() < end {
         return None;
     }
