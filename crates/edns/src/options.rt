@@ -6,14 +6,12 @@ ghost use Rattle.edns.specs.Answers.{found_of, listing_of};
 
 use crate::{Cookie, EdnsOption, Past};
 
-// The option at a place of an OPT record's data. Its body stands behind OPTION-LENGTH, and that behind the 2 bytes of OPTION-CODE.
+// The option at a place of an OPT record's data. Its body stands behind OPTION-LENGTH, and this behind the 2 bytes of
+// OPTION-CODE.
 #[tactic(auto, using(octets::proofs::ReadLaws::part_begins), unfolding(crate::specs::Options::option_at))]
 pub fn option_at(rdata: &[u8], at: usize) -> Option<EdnsOption>
     ensures { found_of result ≡ option_at rdata.now at }
 {
-    if rdata.len() <= at {
-        return None;
-    }
     let end = octets::part_end(rdata, at, 2)?;
     Some(EdnsOption {
         code: octets::be16([rdata[at], rdata[at + 1]]),

@@ -17,7 +17,7 @@ pub fn question_end(message: &[u8], at: usize) -> Option<usize>
     Some(stop)
 }
 
-// The record at a place. Its data stands behind RDLENGTH, and that behind the 8 bytes of TYPE, CLASS and TTL.
+// The record at a place. Its data stands behind RDLENGTH, and this behind the 8 bytes of TYPE, CLASS and TTL.
 #[tactic(auto, using(octets::proofs::ReadLaws::part_begins))]
 pub fn record_at(message: &[u8], at: usize) -> Option<Record>
     ensures { found_of result ≡ record_at message.now at }

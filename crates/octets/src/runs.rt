@@ -29,10 +29,14 @@ pub fn bytes_at<const N: usize>(s: &[u8], at: usize) -> [u8; N]
     bytes
 }
 
-// Where a part ends that stands behind the two bytes of its length, and they behind so many bytes from a place on; nothing if it is past
-// the end. A walk waits for the next place, so the two bytes are added one by one, since a load of both with a swap takes longer. They
-// are added to `start`, which a test has too, and no test has the place of the length, so that LLVM makes it a part of the two loads:
-// with `at + skip` for the place (`end + 8` for a record) an addition more is waited for.
+// Where a part ends. Two bytes, `skip` bytes behind a place, are its length, and the part follows them. Nothing if the
+// run does not have all of it. `skip` is a byte, so that `skip + 2` fits.
+//
+// A walk over records waits for this answer at each of them, so its form is chosen for speed:
+// - The two bytes are added one by one. One load of both with a swap takes longer.
+// - `skip` is an argument of its own. If a caller added it to the place, the sum would be tested, and so be worked out
+//   before the two loads, which would wait for it. Here `start` is tested, which the answer needs anyway, and the
+//   addition for `length` becomes a part of the loads' addresses.
 #[tactic(auto, unfolding(crate::specs::Runs::part_end))]
 pub fn part_end(s: &[u8], at: usize, skip: u8) -> Option<usize>
     ensures { result ≡ part_end s.now (at + skip) }

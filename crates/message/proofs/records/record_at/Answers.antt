@@ -1,14 +1,11 @@
 -- `message::records::record_at` meets its contract. One law for each answer. Assumes nothing.
 use borrow.Author.Rules.{rules}
-use Rattle.message.proofs.NameLaws.{name_inside, name_fits}
+use Rattle.message.proofs.NameLaws.{name_inside}
 use Rattle.message.proofs.RecordLaws.{record_no_name, record_past, record_whole}
 use Rattle.message.proofs.records.record_at.Goals as goal
 
 pub returns-in_err-end : goal.returns-in_err-end
 returns-in_err-end c = search (rules, record_no_name, c.in_err-end.ensures)
-
-pub overflow_add-end : goal.overflow_add-end
-overflow_add-end c = search (rules, name_fits, c.in_ok-end.ensures, c.well_formed.0.1)
 
 pub returns-in_err-stop : goal.returns-in_err-stop
 returns-in_err-stop c = search (rules, record_past, c.in_ok-end.ensures, c.in_err-stop.ensures)
