@@ -187,15 +187,15 @@ behind_16 s place at next e = rw e (omega arith)
 
 -- the two bytes of its length, added to the place behind them
 module _ (s : List ℕ) (at place start : ℕ) (is : place ≡ at) (behind : start ≡ at + 2) where
-  end_is : start + get_or s (place + 1) 0 + get_or s place 0 * 256 ≡ at + 2 + be16_at s at
-  end_is = rw (is, behind) (behind_16 s (at + 2) at (at + 1) refl)
+  end_is : start + get_or s place 0 * 256 + get_or s (place + 1) 0 ≡ at + 2 + be16_at s at
+  end_is = rw (is, behind) (omega (arith, behind_16 s (at + 2) at (at + 1) refl))
 
-  pub part_past : length s < start + get_or s (place + 1) 0 + get_or s place 0 * 256 → None ≡ part_end s at
+  pub part_past : length s < start + get_or s place 0 * 256 + get_or s (place + 1) 0 → None ≡ part_end s at
   unfolding part_end
   part_past past = rw (lt-leb (at + 2 + be16_at s at) (length s) (omega (arith, end_is))) refl
 
-  pub part_inside : start + get_or s (place + 1) 0 + get_or s place 0 * 256 ≤ length s
-      → Some (start + get_or s (place + 1) 0 + get_or s place 0 * 256) ≡ part_end s at
+  pub part_inside : start + get_or s place 0 * 256 + get_or s (place + 1) 0 ≤ length s
+      → Some (start + get_or s place 0 * 256 + get_or s (place + 1) 0) ≡ part_end s at
   unfolding part_end
   part_inside inside = rw (le-leb (at + 2 + be16_at s at) (length s) (omega (arith, end_is))) (ap Some end_is)
 

@@ -46,7 +46,7 @@ pub fn part_end(s: &[u8], at: usize, skip: u8) -> Option<usize>
         return None;
     }
     let length = at + skip as usize;
-    let end = start + s[length + 1] as usize + s[length] as usize * 256;
+    let end = start + s[length] as usize * 256 + s[length + 1] as usize;
     if s.len() < end {
         return None;
     }
