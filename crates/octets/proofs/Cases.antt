@@ -1,11 +1,11 @@
 -- The claims of specs/Cases.antt: `CasesHold` by computing the definitions, `ReadsHold` by induction and the laws of ReadLaws. Assumes nothing.
-use mathlib.Core.Path.{◌≡◌, refl, ap, ◌∙◌}
+use mathlib.Core.Path.{◌≡◌, refl, sym, ap, ◌∙◌}
 use mathlib.Core.List.{List}
 use Prim.Native.Nat.{ℕ, zero, suc, ◌+◌, ◌<◌}
 use native.Mathlib.Omega.{arith}
 use borrow.Author.Tests.{le-leb, lt-leb}
 use lib.ListN.{length, get_or}
-use Rattle.octets.proofs.ReadLaws.{bytes_there}
+use Rattle.octets.proofs.ReadLaws.{bytes_there, be16_part, be32_part, be64_part}
 use Rattle.octets.specs.Numbers.{le_number, le_bytes, be_number, be_bytes, printed}
 use Rattle.octets.specs.Runs.{bytes_at, part_end, same_run, fits, written}
 use Rattle.octets.specs.Numbers.{be16_at}
@@ -69,6 +69,9 @@ reads_hold =
       so_many = length_bytes;
       each_byte = each_of;
       within = bytes_there;
+      of_two = λ s at. sym (be16_part s at);
+      of_four = λ s at. sym (be32_part s at);
+      of_eight = λ s at. sym (be64_part s at);
       part_ends = λ s at fits. rw (le-leb (at + 2 + be16_at s at) (length s) fits) refl;
       part_lacks = λ s at past. rw (lt-leb (at + 2 + be16_at s at) (length s) past) refl;
     }

@@ -81,6 +81,10 @@ pub word_is : (n : ℕ) (s : List ℕ) (at : ℕ) (bytes : List ℕ) (x : ℕ) �
 word_is n s at bytes x are is = is ∙ ap le_number are ∙ le_part n s at
 
 -- and big-endian
+pub be16_part : (s : List ℕ) (at : ℕ) → be_number (bytes_at 2 s at) ≡ be16_at s at
+unfolding bytes_at
+be16_part s at = simp towards_suc
+
 pub be32_part : (s : List ℕ) (at : ℕ) → be_number (bytes_at 4 s at) ≡ be32_at s at
 unfolding bytes_at
 be32_part s at = simp towards_suc

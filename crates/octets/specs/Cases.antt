@@ -13,6 +13,10 @@ pub record ReadsHold : Type 0 where
   pub so_many : (n : ℕ) (s : List ℕ) (at : ℕ) → length (bytes_at n s at) ≡ n
   pub each_byte : (n : ℕ) (s : List ℕ) (at k : ℕ) → k < n → get_or (bytes_at n s at) k 0 ≡ get_or s (at + k) 0
   pub within : (n : ℕ) (s : List ℕ) (at : ℕ) → at + n ≤ length s → bytes_at n s at ≡ take n (drop at s)
+  -- the number at a place is that of the bytes there
+  pub of_two : (s : List ℕ) (at : ℕ) → be16_at s at ≡ be_number (bytes_at 2 s at)
+  pub of_four : (s : List ℕ) (at : ℕ) → be32_at s at ≡ be_number (bytes_at 4 s at)
+  pub of_eight : (s : List ℕ) (at : ℕ) → be64_at s at ≡ be_number (bytes_at 8 s at)
   -- a part ends behind its length and so many bytes, if the run has them all, and otherwise nowhere
   pub part_ends : (s : List ℕ) (at : ℕ) → at + 2 + be16_at s at ≤ length s → part_end s at ≡ Some (at + 2 + be16_at s at)
   pub part_lacks : (s : List ℕ) (at : ℕ) → length s < at + 2 + be16_at s at → part_end s at ≡ None
